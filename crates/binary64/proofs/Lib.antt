@@ -1,0 +1,12 @@
+pub mod Nan
+pub mod Tests
+pub mod Flags
+pub mod FloatOrder
+pub mod SignMagnitude
+pub mod TotalOrder
+pub mod Negation
+pub mod SignedOrder
+pub mod Integral
+pub mod FloorSteps
+pub mod Convert
+pub mod ConvertSteps

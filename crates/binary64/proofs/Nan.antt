@@ -1,0 +1,20 @@
+-- What the test x != x tells of x. Assumes nothing.
+use mathlib.Core.Path.{_≡_, refl, sym, subst, _∙_}
+use mathlib.Core.Bool.{true, false, not, true≢false}
+use lib.Dec.{T}
+use lib.Ieee.{Float, nan, inf, fin, ne, isNan}
+use lib.Ieee.Compare.{differs-from-itself, nan-differs}
+
+-- Only a NaN differs from itself.
+pub is-nan : (x : Float) → ne x x ≡ true → x ≡ nan
+is-nan x h = differs-from-itself x (subst T (sym h) tt)
+
+pub not-nan : (x : Float) → ne x x ≡ false → isNan x ≡ false
+unfolding isNan
+not-nan nan h = absurd (true≢false (sym nan-differs ∙ h))
+not-nan (inf s) h = refl
+not-nan (fin s m e) h = refl
+
+-- The same as reading the bits of x asks for it.
+pub no-nan : (x : Float) → ne x x ≡ false → T (not (isNan x))
+no-nan x h = rw (not-nan x h) tt

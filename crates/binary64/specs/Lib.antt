@@ -1,0 +1,3 @@
+pub mod TotalOrder
+pub mod Integral
+pub mod Convert

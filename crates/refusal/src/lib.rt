@@ -1,0 +1,16 @@
+// Why a call is refused.
+ghost use mathlib.Core.Path.{_≡_};
+ghost use Rattle.refusal.specs.Refusal.{refusal};
+
+// A row of document 01's table "Refused, by the place of the check". Every refusal of the engine is made here.
+pub struct Refusal {
+    pub number: u32,
+}
+
+impl Refusal {
+    pub fn new(number: u32) -> Self
+        ensures { λ r. ⌜ r ≡ refusal number ⌝ }
+    {
+        Self { number }
+    }
+}

@@ -1,0 +1,12 @@
+pub mod Range
+pub mod Tabulate
+pub mod Starts
+pub mod Permutation
+pub mod Ascending
+pub mod Filter
+pub mod Fill
+pub mod Cycle
+pub mod Least
+pub mod Appearance
+pub mod Slabs
+pub mod Cases

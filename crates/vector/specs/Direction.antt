@@ -1,0 +1,29 @@
+-- Rows 5 and 9 of document 01's table of refusals. Definitions only.
+use Prim.Native.Nat.{ℕ}
+use mathlib.Core.Bool.{Bool, true, false, _&&_, cond}
+use lib.IntN.{pos, negsuc}
+use lib.Ieee.{Float, fin, le}
+use lib.Ieee.Scale.{finite}
+use Rattle.refusal.specs.Refusal.{refusal}
+use Rattle.vector.specs.declared.Vector3.{Vector3}
+use Rattle.vector.specs.declared.Direction.{Direction}
+use Rattle.vector.specs.declared.Direction.the-variants.{Refused, Accepted}
+use Rattle.vector.specs.Vector.{squaredLength}
+
+-- 2 ^ -40 and 2 ^ 40
+abbrev pub leastSquaredLength : Float
+leastSquaredLength = fin false 1 (negsuc 39)
+
+abbrev pub greatestSquaredLength : Float
+greatestSquaredLength = fin false 1 (pos 40)
+
+-- Row 5 refuses "a position with a non-finite component or computed squared length outside 2^−40..2^40, ends allowed", row 9 a direction likewise.
+unfoldable pub admissible : Vector3 → Bool
+admissible v =
+    finite (v .x) && finite (v .y) && finite (v .z)
+    && (le leastSquaredLength (squaredLength v) && le (squaredLength v) greatestSquaredLength)
+
+-- A direction that passes row 9, or that row's refusal.
+unfoldable pub directionOf : Vector3 → Direction
+unfolding admissible
+directionOf v = cond (admissible v) (Accepted v) (Refused (refusal 9))

@@ -1,0 +1,126 @@
+//! What a check is, and how the checks are run and counted.
+
+use std::collections::BTreeMap;
+use std::sync::atomic::{AtomicUsize, Ordering};
+use std::sync::mpsc;
+use std::thread;
+use std::time::{Duration, Instant};
+
+/// Checks run at one time.
+const THREADS: usize = 2;
+/// Differences that a check describes; the others are counted.
+const DESCRIBED: usize = 3;
+
+/// Functions compared on one kind of input, a module of this program.
+pub struct Topic {
+    pub name: &'static str,
+    checks: &'static [Check],
+}
+
+impl Topic {
+    pub const fn new(name: &'static str, checks: &'static [Check]) -> Self {
+        Topic { name, checks }
+    }
+}
+
+/// One function's comparison.
+pub struct Check {
+    name: &'static str,
+    run: fn(&mut Tally),
+}
+
+impl Check {
+    pub const fn new(name: &'static str, run: fn(&mut Tally)) -> Self {
+        Check { name, run }
+    }
+}
+
+#[derive(Default)]
+pub struct Tally {
+    count: u64,
+    differences: u64,
+    described: Vec<String>,
+}
+
+impl Tally {
+    /// Counts one comparison, and describes it where the sides differ.
+    #[inline]
+    pub fn compare(&mut self, same: bool, describe: impl FnOnce() -> String) {
+        self.count += 1;
+        if !same {
+            self.differences += 1;
+            if self.described.len() < DESCRIBED {
+                self.described.push(describe());
+            }
+        }
+    }
+}
+
+/// Whether two results have the same bits. NaN bits are free.
+#[inline]
+pub fn same(x: f64, y: f64) -> bool {
+    x.to_bits() == y.to_bits() || (x.is_nan() && y.is_nan())
+}
+
+/// Runs the checks, prints a line for each in the order of the table, then the sums. Gives the
+/// number of differences.
+pub fn run(topics: &[&Topic]) -> u64 {
+    let jobs: Vec<(&Topic, &Check)> = topics
+        .iter()
+        .flat_map(|topic| topic.checks.iter().map(move |check| (*topic, check)))
+        .collect();
+    let next = AtomicUsize::new(0);
+    let work = |results: mpsc::Sender<(usize, Tally, Duration)>| {
+        while let Some((at, (_, check))) = take(&next, &jobs) {
+            let start = Instant::now();
+            let mut tally = Tally::default();
+            (check.run)(&mut tally);
+            // Fails only where the receiver is gone, and then nobody wants the result.
+            let _ = results.send((at, tally, start.elapsed()));
+        }
+    };
+    let (mut count, mut differences) = (0, 0);
+    println!("topic    check               compared  differences  seconds");
+    thread::scope(|scope| {
+        let (sender, results) = mpsc::channel();
+        for _ in 0..THREADS {
+            let sender = sender.clone();
+            scope.spawn(|| work(sender));
+        }
+        drop(sender);
+        let mut waiting = BTreeMap::new();
+        let mut printed = 0;
+        for (at, tally, time) in results {
+            waiting.insert(at, (tally, time));
+            while let Some((tally, time)) = waiting.remove(&printed) {
+                let (topic, check) = jobs[printed];
+                print_line(topic, check, &tally, time);
+                count += tally.count;
+                differences += tally.differences;
+                printed += 1;
+            }
+        }
+    });
+    println!(
+        "{} checks, {count} comparisons, {differences} differences",
+        jobs.len()
+    );
+    differences
+}
+
+/// The next job that no thread has taken.
+fn take<T: Copy>(next: &AtomicUsize, jobs: &[T]) -> Option<(usize, T)> {
+    let at = next.fetch_add(1, Ordering::Relaxed);
+    jobs.get(at).map(|job| (at, *job))
+}
+
+fn print_line(topic: &Topic, check: &Check, tally: &Tally, time: Duration) {
+    let (count, differences, seconds) = (tally.count, tally.differences, time.as_secs_f64());
+    println!(
+        "{:<7}  {:<14}  {count:>11}  {differences:>11}  {seconds:>7.2}",
+        topic.name, check.name
+    );
+    for description in &tally.described {
+        println!("    differs: {description}");
+    }
+}

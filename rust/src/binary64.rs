@@ -1,0 +1,126 @@
+//! Order, rounding to a whole number, and conversion of doubles.
+
+use crate::ffi;
+use std::cmp::Ordering;
+
+/// How the bit pattern `x` stands to `y` in the total order (5.10). Patterns and not doubles, as
+/// the order tells NaNs apart by sign, kind and payload.
+pub fn total_cmp(x: u64, y: u64) -> Ordering {
+    match ffi::koshirga_total_cmp(x, y) {
+        -1 => Ordering::Less,
+        0 => Ordering::Equal,
+        1 => Ordering::Greater,
+        other => unreachable!("koshirga_total_cmp answered {other}"),
+    }
+}
+
+/// The place of `x` in the total order (5.10) of all 2^64 bit patterns, counted from 0. Every
+/// NaN counts as the pattern `0x7ff8_0000_0000_0000`.
+pub fn rank(x: f64) -> u64 {
+    ffi::koshirga_rank(x)
+}
+
+/// The greatest whole number not above `x` (5.9, roundToIntegralTowardNegative).
+pub fn floor(x: f64) -> f64 {
+    ffi::koshirga_floor(x)
+}
+
+/// The least whole number not below `x` (5.9, roundToIntegralTowardPositive).
+pub fn ceil(x: f64) -> f64 {
+    ffi::koshirga_ceil(x)
+}
+
+/// `x` cut toward zero (5.8, convertToIntegerTowardZero): the nearer end of the range for values
+/// beyond it, 0 for a NaN.
+pub fn to_i64(x: f64) -> i64 {
+    ffi::koshirga_to_i64(x)
+}
+
+#[cfg(test)]
+mod tests {
+    use super::*;
+
+    const TWO_TO_63: f64 = 9_223_372_036_854_775_808.0;
+
+    /// Patterns in ascending total order.
+    const ASCENDING: [u64; 15] = [
+        0xffff_ffff_ffff_ffff, // −NaN, quiet, greatest payload
+        0xfff8_0000_0000_0000, // −NaN, quiet
+        0xfff0_0000_0000_0001, // −NaN, signaling
+        0xfff0_0000_0000_0000, // −∞
+        0xbff0_0000_0000_0000, // −1
+        0x8000_0000_0000_0001, // greatest below −0
+        0x8000_0000_0000_0000, // −0
+        0x0000_0000_0000_0000, // +0
+        0x0000_0000_0000_0001, // least subnormal
+        0x0010_0000_0000_0000, // least normal
+        0x3ff0_0000_0000_0000, // 1
+        0x7ff0_0000_0000_0000, // +∞
+        0x7ff0_0000_0000_0001, // +NaN, signaling
+        0x7ff8_0000_0000_0000, // +NaN, quiet
+        0x7fff_ffff_ffff_ffff, // +NaN, quiet, greatest payload
+    ];
+
+    #[test]
+    fn total_order() {
+        for (i, &x) in ASCENDING.iter().enumerate() {
+            for (j, &y) in ASCENDING.iter().enumerate() {
+                assert_eq!(total_cmp(x, y), i.cmp(&j));
+            }
+        }
+    }
+
+    #[test]
+    fn ranks() {
+        assert_eq!(rank(-0.0), 0x7fff_ffff_ffff_ffff);
+        assert_eq!(rank(0.0), 0x8000_0000_0000_0000);
+        assert_eq!(rank(f64::NEG_INFINITY), 0x000f_ffff_ffff_ffff);
+        assert_eq!(rank(f64::INFINITY), 0xfff0_0000_0000_0000);
+        assert_eq!(rank(f64::NAN), 0xfff8_0000_0000_0000);
+        assert_eq!(rank(-f64::NAN), rank(f64::NAN));
+    }
+
+    #[test]
+    fn floor_and_ceil() {
+        for (x, down, up) in [
+            (2.5, 2.0, 3.0),
+            (-2.5, -3.0, -2.0),
+            (0.5, 0.0, 1.0),
+            (-0.5, -1.0, -0.0),
+            (0.0, 0.0, 0.0),
+            (-0.0, -0.0, -0.0),
+            (5e-324, 0.0, 1.0),
+            (-5e-324, -1.0, -0.0),
+            (
+                4_503_599_627_370_495.5,
+                4_503_599_627_370_495.0,
+                4_503_599_627_370_496.0,
+            ),
+            (1e300, 1e300, 1e300),
+            (f64::INFINITY, f64::INFINITY, f64::INFINITY),
+            (f64::NEG_INFINITY, f64::NEG_INFINITY, f64::NEG_INFINITY),
+        ] {
+            assert_eq!(floor(x).to_bits(), f64::to_bits(down), "floor {x}");
+            assert_eq!(ceil(x).to_bits(), f64::to_bits(up), "ceil {x}");
+        }
+        assert!(floor(f64::NAN).is_nan() && ceil(f64::NAN).is_nan());
+    }
+
+    #[test]
+    fn conversion() {
+        for (x, whole) in [
+            (-0.5, 0),
+            (-1.5, -1),
+            (1.999, 1),
+            (TWO_TO_63, i64::MAX),
+            (TWO_TO_63.next_down(), 9_223_372_036_854_774_784),
+            (-TWO_TO_63, i64::MIN),
+            ((-TWO_TO_63).next_down(), i64::MIN),
+            (f64::INFINITY, i64::MAX),
+            (f64::NEG_INFINITY, i64::MIN),
+            (f64::NAN, 0),
+        ] {
+            assert_eq!(to_i64(x), whole, "{x}");
+        }
+    }
+}
