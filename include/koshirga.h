@@ -1,8 +1,8 @@
 /* Koshirga: exports of the archive libc_api.a, which `rt staticlib c_api` makes.
  *
  * Clauses are those of IEEE 754-2019. All arithmetic is on binary64, rounded to nearest, ties to
- * even (4.3.1), one rounding an operation and none fused. Sign and payload of a NaN result are
- * free. Every function accepts every argument, writes no memory and keeps no state.
+ * even (4.3.1), one rounding an operation; koshirga_mul_add alone is fused. Sign and payload of a
+ * NaN result are free. Every function accepts every argument, writes no memory and keeps no state.
  */
 #ifndef KOSHIRGA_H
 #define KOSHIRGA_H
@@ -34,6 +34,14 @@ double koshirga_ceil(double x);
  * the range for a value or infinity beyond it, 0 for a NaN. */
 int64_t koshirga_to_i64(double x);
 
+/* a*b + c, exact and then rounded once: fusedMultiplyAdd (5.4.1). An exact zero sum of opposite
+ * signs is +0, and a result that is rounded to zero keeps its sign (6.3). */
+double koshirga_mul_add(double a, double b, double c);
+
+/* The square root, exact and then rounded: squareRoot (5.4.1). The root of -0 is -0 (6.3), that
+ * of a number below zero a NaN (7.2). */
+double koshirga_sqrt(double x);
+
 /* ---- vectors */
 
 typedef struct koshirga_vector3 {
@@ -61,6 +69,12 @@ koshirga_vector3 koshirga_divide(koshirga_vector3 v, double divisor);
 
 /* The squared length: koshirga_dot(v, v) (5.4.1). */
 double koshirga_norm_squared(koshirga_vector3 v);
+
+/* The length: koshirga_sqrt(koshirga_norm_squared(v)) (5.4.1). */
+double koshirga_norm(koshirga_vector3 v);
+
+/* Each component divided by the length: koshirga_divide(v, koshirga_norm(v)) (5.4.1). */
+koshirga_vector3 koshirga_normalize(koshirga_vector3 v);
 
 /* 0 where v is accepted as a direction; 9 where a component isn't finite (5.7.2, isFinite) or
  * koshirga_norm_squared(v) is outside 2^-40..2^40 (5.11), ends accepted. */

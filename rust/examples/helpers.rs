@@ -1,6 +1,7 @@
-//! Prints some doubles with their rank, floor, ceiling and conversion, then checks directions.
+//! Prints some doubles with their rank, floor, ceiling and conversion, a fused multiply-add and a
+//! root, then checks directions and normalises those that are accepted.
 
-use koshirga::{ceil, floor, rank, to_i64, Vector3};
+use koshirga::{ceil, floor, mul_add, rank, sqrt, to_i64, Vector3};
 
 fn main() {
     println!(
@@ -27,13 +28,25 @@ fn main() {
         );
     }
     println!();
+    let (x, y) = (1.0 + f64::EPSILON, -(1.0 + 2.0 * f64::EPSILON));
+    println!(
+        "x * x + y for x = {x}, y = {y}: {:e} fused, {:e} rounded apart",
+        mul_add(x, x, y),
+        x * x + y
+    );
+    println!("root of 2.25: {}", sqrt(2.25));
+    println!();
     for v in [
         Vector3::new(1.0, 2.0, 2.0),
         Vector3::new(0.0, 0.0, 2e6),
         Vector3::ZERO,
     ] {
         match v.check_direction() {
-            Ok(()) => println!("{v:?}: accepted, squared length {}", v.norm_squared()),
+            Ok(()) => println!(
+                "{v:?}: accepted, length {}, normalised {:?}",
+                v.norm(),
+                v.normalize()
+            ),
             Err(refusal) => println!("{v:?}: {refusal}"),
         }
     }

@@ -1,4 +1,4 @@
-//! Order, rounding to a whole number, and conversion of doubles.
+//! Order, rounding to a whole number, conversion, fused multiply-add and root of doubles.
 
 use crate::ffi;
 use std::cmp::Ordering;
@@ -34,6 +34,19 @@ pub fn ceil(x: f64) -> f64 {
 /// beyond it, 0 for a NaN.
 pub fn to_i64(x: f64) -> i64 {
     ffi::koshirga_to_i64(x)
+}
+
+/// a·b + c, exact and then rounded once to nearest, ties to even (5.4.1, fusedMultiplyAdd; 4.3.1).
+/// An exact zero sum of opposite signs is +0, and a result that is rounded to zero keeps its sign
+/// (6.3).
+pub fn mul_add(a: f64, b: f64, c: f64) -> f64 {
+    ffi::koshirga_mul_add(a, b, c)
+}
+
+/// The square root, exact and then rounded to nearest, ties to even (5.4.1, squareRoot; 4.3.1).
+/// The root of −0 is −0 (6.3), that of a number below zero a NaN (7.2).
+pub fn sqrt(x: f64) -> f64 {
+    ffi::koshirga_sqrt(x)
 }
 
 #[cfg(test)]
@@ -121,6 +134,113 @@ mod tests {
             (f64::NAN, 0),
         ] {
             assert_eq!(to_i64(x), whole, "{x}");
+        }
+    }
+
+    const LEAST: f64 = f64::from_bits(1);
+    /// Half an ulp of the greatest finite number.
+    const HALF_ULP: f64 = f64::from_bits(0x7c90_0000_0000_0000);
+
+    fn assert_mul_add(cases: &[(f64, f64, f64, f64)]) {
+        for &(a, b, c, sum) in cases {
+            let ours = mul_add(a, b, c);
+            assert_eq!(ours.to_bits(), sum.to_bits(), "{a:e} * {b:e} + {c:e}");
+        }
+    }
+
+    /// Rounded apart, the first sum is 0 and the second infinite.
+    #[test]
+    fn mul_add_rounds_once() {
+        let x = 1.0 + f64::EPSILON;
+        assert_mul_add(&[
+            (x, x, -(1.0 + 2.0 * f64::EPSILON), 2f64.powi(-104)),
+            (f64::MAX, 2.0, -f64::MAX, f64::MAX),
+            (2.0, 3.0, 4.0, 10.0),
+            (-2.0, 3.0, 0.5, -5.5),
+            // Halfway between two doubles, and a little to either side.
+            (x, 1.5, 0.0, 1.5 + 2.0 * f64::EPSILON),
+            (x, 1.5, LEAST, 1.5 + 2.0 * f64::EPSILON),
+            (x, 1.5, -LEAST, 1.5 + f64::EPSILON),
+        ]);
+    }
+
+    #[test]
+    fn mul_add_zeros() {
+        assert_mul_add(&[
+            (1.0, 1.0, -1.0, 0.0),
+            (-1.0, 1.0, 1.0, 0.0),
+            (0.0, 1.0, -0.0, 0.0),
+            (-0.0, 1.0, 0.0, 0.0),
+            (-0.0, 1.0, -0.0, -0.0),
+            (0.0, 1.0, 0.0, 0.0),
+            // Not exactly zero: the sign stays.
+            (1e-200, -1e-200, 0.0, -0.0),
+            (1e-200, 1e-200, -0.0, 0.0),
+        ]);
+    }
+
+    #[test]
+    fn mul_add_subnormals() {
+        assert_mul_add(&[
+            (LEAST, 0.5, 0.0, 0.0),
+            (3.0 * LEAST, 0.5, 0.0, 2.0 * LEAST),
+            (LEAST, 0.75, 0.0, LEAST),
+            (LEAST, 0.5, LEAST, 2.0 * LEAST),
+            (1e-200, 1e-200, LEAST, LEAST),
+            (
+                f64::MIN_POSITIVE,
+                1.0,
+                -LEAST,
+                f64::MIN_POSITIVE.next_down(),
+            ),
+        ]);
+    }
+
+    #[test]
+    fn mul_add_overflow() {
+        assert_mul_add(&[
+            (f64::MAX, 1.0, HALF_ULP, f64::INFINITY),
+            (f64::MAX, 1.0, HALF_ULP.next_down(), f64::MAX),
+            (f64::MAX, -2.0, 1.0, f64::NEG_INFINITY),
+            (f64::MAX, f64::MAX, f64::NEG_INFINITY, f64::NEG_INFINITY),
+            (f64::INFINITY, -1.0, 1.0, f64::NEG_INFINITY),
+        ]);
+    }
+
+    #[test]
+    fn mul_add_nan() {
+        let infinity = f64::INFINITY;
+        for (a, b, c) in [
+            (infinity, 0.0, 1.0),
+            (infinity, 1.0, -infinity),
+            (f64::NAN, 1.0, 1.0),
+            (1.0, f64::NAN, 1.0),
+            (1.0, 1.0, f64::NAN),
+        ] {
+            assert!(mul_add(a, b, c).is_nan(), "{a} * {b} + {c}");
+        }
+    }
+
+    #[test]
+    fn roots() {
+        for (x, root) in [
+            (2.25, 1.5),
+            (2.0, std::f64::consts::SQRT_2),
+            (1.0, 1.0),
+            (1f64.next_up(), 1.0),
+            (1f64.next_down(), 1f64.next_down()),
+            (0.0, 0.0),
+            (-0.0, -0.0),
+            (LEAST, 2f64.powi(-537)),
+            (f64::MIN_POSITIVE, 2f64.powi(-511)),
+            (f64::MIN_POSITIVE.next_down(), 2f64.powi(-511).next_down()),
+            (f64::MAX, 2f64.powi(512).next_down()),
+            (f64::INFINITY, f64::INFINITY),
+        ] {
+            assert_eq!(sqrt(x).to_bits(), f64::to_bits(root), "root of {x:e}");
+        }
+        for x in [-LEAST, -1.0, f64::NEG_INFINITY, f64::NAN] {
+            assert!(sqrt(x).is_nan(), "root of {x:e}");
         }
     }
 }

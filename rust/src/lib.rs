@@ -6,6 +6,6 @@ mod ffi;
 mod refusal;
 mod vector;
 
-pub use binary64::{ceil, floor, rank, to_i64, total_cmp};
+pub use binary64::{ceil, floor, mul_add, rank, sqrt, to_i64, total_cmp};
 pub use refusal::Refusal;
 pub use vector::Vector3;

@@ -54,6 +54,16 @@ impl Vector3 {
         ffi::koshirga_norm_squared(self)
     }
 
+    /// The length: the root of the squared length.
+    pub fn norm(self) -> f64 {
+        ffi::koshirga_norm(self)
+    }
+
+    /// Each component divided by the length. So the zero vector gives NaNs.
+    pub fn normalize(self) -> Vector3 {
+        ffi::koshirga_normalize(self)
+    }
+
     /// Whether the vector is accepted as a direction: finite components, and a squared length
     /// from 2^−40 to 2^40, ends included. Refused by row 9 otherwise.
     pub fn check_direction(self) -> Result<(), Refusal> {
@@ -77,6 +87,11 @@ mod tests {
         assert_eq!(A.scale(-2.0), Vector3::new(-2.0, -4.0, -6.0));
         assert_eq!(A.divide(4.0), Vector3::new(0.25, 0.5, 0.75));
         assert_eq!(A.norm_squared(), 14.0);
+        assert_eq!(Vector3::new(3.0, -4.0, 12.0).norm(), 13.0);
+        assert_eq!(
+            Vector3::new(0.0, 3.0, -4.0).normalize(),
+            Vector3::new(0.0, 0.6, -0.8)
+        );
         assert_eq!(A.plus(Vector3::ZERO), A);
     }
 
@@ -95,6 +110,25 @@ mod tests {
         let x = 1.0 + f64::EPSILON;
         let a = Vector3::new(x, -(1.0 + 2.0 * f64::EPSILON), 0.0);
         assert_eq!(a.dot(Vector3::new(x, 1.0, 0.0)), 0.0);
+    }
+
+    /// The squared length can be zero, infinite or subnormal where the length is none of these.
+    #[test]
+    fn lengths_out_of_range() {
+        let long = Vector3::new(1e200, 0.0, -1.0);
+        assert_eq!(long.norm(), f64::INFINITY);
+        assert_eq!(long.normalize(), Vector3::ZERO);
+        assert!(long.normalize().z.is_sign_negative());
+        let short = Vector3::new(0.0, 1e-200, 0.0);
+        assert_eq!(short.norm(), 0.0);
+        assert_eq!(short.normalize().y, f64::INFINITY);
+        assert!(short.normalize().x.is_nan());
+        assert_eq!(
+            Vector3::new(0.0, 0.0, 2f64.powi(-537)).norm(),
+            2f64.powi(-537)
+        );
+        assert!(Vector3::ZERO.normalize().x.is_nan());
+        assert!(Vector3::new(f64::NAN, 0.0, 0.0).norm().is_nan());
     }
 
     #[test]

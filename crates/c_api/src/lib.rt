@@ -1,9 +1,12 @@
 // The engine for C and Rust: include/koshirga.h declares these functions.
 ghost use mathlib.Core.Path.{_≡_};
+ghost use lib.Ieee.{binary64};
 ghost use Rattle.binary64.specs.TotalOrder.{totalOrdering, rankOf};
 ghost use Rattle.binary64.specs.Integral.{floorOf, ceilOf};
 ghost use Rattle.binary64.specs.Convert.{toI64};
-ghost use Rattle.vector.specs.Vector.{dotProduct, crossProduct, vectorDifference, vectorSum, vectorMultiple, vectorQuotient, squaredLength};
+ghost use Rattle.fused.specs.Fused.{fusedMultiplyAdd};
+ghost use Rattle.root.specs.Root.{squareRoot};
+ghost use Rattle.vector.specs.Vector.{dotProduct, crossProduct, vectorDifference, vectorSum, vectorMultiple, vectorQuotient, squaredLength, lengthOf, normalized};
 ghost use Rattle.vector.specs.Direction.{directionOf};
 ghost use Rattle.c_api.specs.Code.{orderingCode, directionCode};
 use binary64::Ordering;
@@ -49,6 +52,20 @@ pub extern "C" fn koshirga_to_i64(x: f64) -> i64
     ensures { λ r. ⌜ r ≡ toI64 x ⌝ }
 {
     binary64::to_i64(x)
+}
+
+#[no_mangle]
+pub extern "C" fn koshirga_mul_add(a: f64, b: f64, c: f64) -> f64
+    ensures { λ r. ⌜ r ≡ fusedMultiplyAdd binary64 a b c ⌝ }
+{
+    fused::mul_add(a, b, c)
+}
+
+#[no_mangle]
+pub extern "C" fn koshirga_sqrt(x: f64) -> f64
+    ensures { λ r. ⌜ r ≡ squareRoot binary64 x ⌝ }
+{
+    root::sqrt(x)
 }
 
 #[no_mangle]
@@ -98,6 +115,20 @@ pub extern "C" fn koshirga_norm_squared(v: Vector3) -> f64
     ensures { λ r. ⌜ r ≡ squaredLength v ⌝ }
 {
     v.norm_squared()
+}
+
+#[no_mangle]
+pub extern "C" fn koshirga_norm(v: Vector3) -> f64
+    ensures { λ r. ⌜ r ≡ lengthOf v ⌝ }
+{
+    v.norm()
+}
+
+#[no_mangle]
+pub extern "C" fn koshirga_normalize(v: Vector3) -> Vector3
+    ensures { λ r. ⌜ r ≡ normalized v ⌝ }
+{
+    v.normalize()
 }
 
 // 0 where row 9 lets the direction pass, and otherwise 9.

@@ -1,5 +1,6 @@
 -- Document 01, "Vectors". Each `add`, `sub`, `mul` and `div` is one operation of IEEE 754-2019, 5.4.1, rounded to nearest, ties to even (4.3.1). Definitions only.
 use lib.Ieee.{Float, binary64, ofBits, add, sub, mul, div}
+use Rattle.root.specs.Root.{squareRoot}
 use Rattle.vector.specs.declared.Vector3.{Vector3}
 
 abbrev pub vector : Float → Float → Float → Vector3
@@ -36,3 +37,11 @@ vectorMultiple a factor = vector (mul binary64 (a .x) factor) (mul binary64 (a .
 
 abbrev pub vectorQuotient : Vector3 → Float → Vector3
 vectorQuotient a divisor = vector (div binary64 (a .x) divisor) (div binary64 (a .y) divisor) (div binary64 (a .z) divisor)
+
+-- "Length is its root", that of the squared length.
+abbrev pub lengthOf : Vector3 → Float
+lengthOf a = squareRoot binary64 (squaredLength a)
+
+-- "normalising divides each component by it."
+abbrev pub normalized : Vector3 → Vector3
+normalized a = vectorQuotient a (lengthOf a)

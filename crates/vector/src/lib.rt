@@ -1,9 +1,10 @@
 // Vectors of three doubles, as document 01's section "Vectors" gives them: each operation is a stated sequence of single roundings
 // (IEEE 754-2019, 4.3.1).
 ghost use mathlib.Core.Path.{_≡_};
-ghost use Rattle.vector.specs.Vector.{vector, zeroVector, dotProduct, crossProduct, vectorDifference, vectorSum, vectorMultiple, vectorQuotient, squaredLength};
+ghost use Rattle.vector.specs.Vector.{vector, zeroVector, dotProduct, crossProduct, vectorDifference, vectorSum, vectorMultiple, vectorQuotient, squaredLength, lengthOf, normalized};
 ghost use Rattle.vector.specs.Direction.{admissible, directionOf};
 use refusal::Refusal;
+use root::sqrt;
 
 #[repr(C)]
 pub struct Vector3 {
@@ -92,6 +93,18 @@ impl Vector3 {
         ensures { λ r. ⌜ r ≡ squaredLength self ⌝ }
     {
         self.dot(self)
+    }
+
+    pub fn norm(self) -> f64
+        ensures { λ r. ⌜ r ≡ lengthOf self ⌝ }
+    {
+        sqrt(self.norm_squared())
+    }
+
+    pub fn normalize(self) -> Self
+        ensures { λ r. ⌜ r ≡ normalized self ⌝ }
+    {
+        self.divide(self.norm())
     }
 
     // Whether rows 5 and 9 let the vector pass. A component that is no finite number makes the squared length NaN or infinite, so the

@@ -14,24 +14,27 @@ const DESCRIBED: usize = 3;
 /// Functions compared on one kind of input, a module of this program.
 pub struct Topic {
     pub name: &'static str,
-    checks: &'static [Check],
+    checks: fn() -> Vec<Check>,
 }
 
 impl Topic {
-    pub const fn new(name: &'static str, checks: &'static [Check]) -> Self {
+    pub const fn new(name: &'static str, checks: fn() -> Vec<Check>) -> Self {
         Topic { name, checks }
     }
 }
 
-/// One function's comparison.
+/// One function's comparison, on one class of inputs where there are several.
 pub struct Check {
     name: &'static str,
-    run: fn(&mut Tally),
+    run: Box<dyn Fn(&mut Tally) + Sync>,
 }
 
 impl Check {
-    pub const fn new(name: &'static str, run: fn(&mut Tally)) -> Self {
-        Check { name, run }
+    pub fn new(name: &'static str, run: impl Fn(&mut Tally) + Sync + 'static) -> Self {
+        Check {
+            name,
+            run: Box::new(run),
+        }
     }
 }
 
@@ -65,9 +68,13 @@ pub fn same(x: f64, y: f64) -> bool {
 /// Runs the checks, prints a line for each in the order of the table, then the sums. Gives the
 /// number of differences.
 pub fn run(topics: &[&Topic]) -> u64 {
-    let jobs: Vec<(&Topic, &Check)> = topics
+    let jobs: Vec<(&str, Check)> = topics
         .iter()
-        .flat_map(|topic| topic.checks.iter().map(move |check| (*topic, check)))
+        .flat_map(|topic| {
+            (topic.checks)()
+                .into_iter()
+                .map(|check| (topic.name, check))
+        })
         .collect();
     let next = AtomicUsize::new(0);
     let work = |results: mpsc::Sender<(usize, Tally, Duration)>| {
@@ -80,7 +87,7 @@ pub fn run(topics: &[&Topic]) -> u64 {
         }
     };
     let (mut count, mut differences) = (0, 0);
-    println!("topic    check               compared  differences  seconds");
+    println!("topic       check                              compared  differences  seconds");
     thread::scope(|scope| {
         let (sender, results) = mpsc::channel();
         for _ in 0..THREADS {
@@ -93,7 +100,7 @@ pub fn run(topics: &[&Topic]) -> u64 {
         for (at, tally, time) in results {
             waiting.insert(at, (tally, time));
             while let Some((tally, time)) = waiting.remove(&printed) {
-                let (topic, check) = jobs[printed];
+                let (topic, check) = &jobs[printed];
                 print_line(topic, check, &tally, time);
                 count += tally.count;
                 differences += tally.differences;
@@ -109,16 +116,16 @@ pub fn run(topics: &[&Topic]) -> u64 {
 }
 
 /// The next job that no thread has taken.
-fn take<T: Copy>(next: &AtomicUsize, jobs: &[T]) -> Option<(usize, T)> {
+fn take<'a, T>(next: &AtomicUsize, jobs: &'a [T]) -> Option<(usize, &'a T)> {
     let at = next.fetch_add(1, Ordering::Relaxed);
-    jobs.get(at).map(|job| (at, *job))
+    jobs.get(at).map(|job| (at, job))
 }
 
-fn print_line(topic: &Topic, check: &Check, tally: &Tally, time: Duration) {
+fn print_line(topic: &str, check: &Check, tally: &Tally, time: Duration) {
     let (count, differences, seconds) = (tally.count, tally.differences, time.as_secs_f64());
     println!(
-        "{:<7}  {:<14}  {count:>11}  {differences:>11}  {seconds:>7.2}",
-        topic.name, check.name
+        "{topic:<10}  {:<30}  {count:>11}  {differences:>11}  {seconds:>7.2}",
+        check.name
     );
     for description in &tally.described {
         println!("    differs: {description}");

@@ -3,14 +3,16 @@
 use crate::check::{same, Check, Tally};
 use crate::patterns::Patterns;
 
-pub const CHECKS: &[Check] = &[
-    Check::new("total_cmp", total_cmp),
-    Check::new("rank_order", rank_order),
-    Check::new("rank_place", rank_place),
-    Check::new("floor", floor),
-    Check::new("ceil", ceil),
-    Check::new("to_i64", to_i64),
-];
+pub fn checks() -> Vec<Check> {
+    vec![
+        Check::new("total_cmp", total_cmp),
+        Check::new("rank_order", rank_order),
+        Check::new("rank_place", rank_place),
+        Check::new("floor", floor),
+        Check::new("ceil", ceil),
+        Check::new("to_i64", to_i64),
+    ]
+}
 
 fn total_cmp(tally: &mut Tally) {
     Patterns::each_pair(1, |x, y| {
@@ -43,15 +45,19 @@ fn rank_order(tally: &mut Tally) {
 }
 
 /// The place counted from 0: the negative patterns stand below all others, in reverse.
+pub fn place(x: f64) -> u64 {
+    let x = one_nan(x.to_bits());
+    if x.is_sign_negative() {
+        !x.to_bits()
+    } else {
+        x.to_bits() + (1 << 63)
+    }
+}
+
 fn rank_place(tally: &mut Tally) {
     Patterns::each(3, |bits| {
-        let ours = koshirga::rank(f64::from_bits(bits));
-        let x = one_nan(bits);
-        let place = if x.is_sign_negative() {
-            !x.to_bits()
-        } else {
-            x.to_bits() + (1 << 63)
-        };
+        let x = f64::from_bits(bits);
+        let (ours, place) = (koshirga::rank(x), place(x));
         tally.compare(ours == place, || {
             format!("rank({bits:#018x}): {ours:#018x}, place {place:#018x}")
         });

@@ -1,32 +1,66 @@
-//! Runs both sides on the same inputs and counts the differences. Arguments name the topics to
-//! run, none means all. Exit status: 0 no difference, 1 some, 2 an unknown topic.
+//! Runs both sides on the same inputs and counts the differences.
+//!
+//! Arguments name the topics to run, none means all. One of two words alone does something else:
+//! `cases` writes the inputs that MPFR judges too, `bench` times both sides.
+//! Exit status: 0 no difference, 1 some, 2 an unknown topic or a Rust side that can't be the judge.
 
+mod arithmetic;
+mod bench;
 mod check;
 mod helpers;
+mod operands;
 mod patterns;
 mod vectors;
 
 use check::Topic;
+use std::io::{self, BufWriter, Write};
 use std::process::ExitCode;
 
-const TOPICS: [Topic; 2] = [
-    Topic::new("helpers", helpers::CHECKS),
-    Topic::new("vectors", vectors::CHECKS),
+const TOPICS: [Topic; 3] = [
+    Topic::new("helpers", helpers::checks),
+    Topic::new("arithmetic", arithmetic::checks),
+    Topic::new("vectors", vectors::checks),
 ];
 
 fn main() -> ExitCode {
     let names: Vec<String> = std::env::args().skip(1).collect();
-    for name in &names {
+    match names.iter().map(String::as_str).collect::<Vec<_>>()[..] {
+        ["cases"] => write_cases(),
+        ["bench"] => {
+            bench::run();
+            ExitCode::SUCCESS
+        }
+        _ => compare(&names),
+    }
+}
+
+fn compare(names: &[String]) -> ExitCode {
+    for name in names {
         if !TOPICS.iter().any(|topic| topic.name == name) {
             let known = TOPICS.map(|topic| topic.name).join(", ");
             eprintln!("compare: no topic {name}; there are: {known}");
             return ExitCode::from(2);
         }
     }
+    if !arithmetic::rust_is_fused() {
+        eprintln!("compare: f64::mul_add rounds twice on this machine, so it can't be the judge");
+        return ExitCode::from(2);
+    }
     let chosen = |topic: &&Topic| names.is_empty() || names.iter().any(|name| name == topic.name);
-    println!("{}", points_note());
+    println!("{}\n{}", points_note(), arithmetic::mul_add_note());
     let differences = check::run(&TOPICS.iter().filter(chosen).collect::<Vec<_>>());
     ExitCode::from(u8::from(differences != 0))
+}
+
+fn write_cases() -> ExitCode {
+    let mut out = BufWriter::new(io::stdout().lock());
+    match arithmetic::write_cases(&mut out).and_then(|()| out.flush()) {
+        Ok(()) => ExitCode::SUCCESS,
+        Err(error) => {
+            eprintln!("compare: {error}");
+            ExitCode::FAILURE
+        }
+    }
 }
 
 /// Both sides read the committed points, so another libm makes no difference to the comparison.

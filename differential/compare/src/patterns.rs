@@ -5,21 +5,21 @@ use koshirga::Vector3;
 /// Random inputs of each check, beside its edges.
 pub const RANDOM: usize = 10_000_000;
 
-const SIGN: u64 = 1 << 63;
-const EXPONENT_FIELDS: u64 = 1 << 11;
-const BIAS: u64 = 1023;
-const SIGNIFICAND_DIGITS: u32 = 52;
-const SIGNIFICAND: u64 = (1 << SIGNIFICAND_DIGITS) - 1;
+pub const SIGN: u64 = 1 << 63;
+pub const EXPONENT_FIELDS: u64 = 1 << 11;
+pub const BIAS: u64 = 1023;
+pub const SIGNIFICAND_DIGITS: u32 = 52;
+pub const SIGNIFICAND: u64 = (1 << SIGNIFICAND_DIGITS) - 1;
 
 /// SplitMix64 (Steele, Lea and Flood, "Fast splittable pseudorandom number generators").
-struct Random(u64);
+pub struct Random(u64);
 
 impl Random {
-    fn new(seed: u64) -> Self {
+    pub fn new(seed: u64) -> Self {
         Random(seed)
     }
 
-    fn bits(&mut self) -> u64 {
+    pub fn bits(&mut self) -> u64 {
         self.0 = self.0.wrapping_add(0x9e37_79b9_7f4a_7c15);
         let mut z = self.0;
         z = (z ^ (z >> 30)).wrapping_mul(0xbf58_476d_1ce4_e5b9);
@@ -28,45 +28,54 @@ impl Random {
     }
 
     /// A number below `limit`.
-    fn below(&mut self, limit: u64) -> u64 {
+    pub fn below(&mut self, limit: u64) -> u64 {
         self.bits() % limit
     }
 
+    /// From `low` to `high`.
+    pub fn between(&mut self, low: i64, high: i64) -> i64 {
+        low + self.below((high - low + 1) as u64) as i64
+    }
+
     /// From −1 to 1.
-    fn unit(&mut self) -> f64 {
+    pub fn unit(&mut self) -> f64 {
         (self.bits() >> 11) as f64 * 2f64.powi(-52) - 1.0
     }
 
     /// `bits` moved by at most `ulps`.
-    fn near(&mut self, bits: u64, ulps: u64) -> u64 {
+    pub fn near(&mut self, bits: u64, ulps: u64) -> u64 {
         bits.wrapping_add(self.below(2 * ulps + 1))
             .wrapping_sub(ulps)
     }
 
     /// Any sign and significand, an exponent field from `low` to `high`.
-    fn with_exponent(&mut self, low: u64, high: u64) -> u64 {
+    pub fn with_exponent(&mut self, low: u64, high: u64) -> u64 {
         let exponent = low + self.below(high - low + 1);
         (self.bits() & !((EXPONENT_FIELDS - 1) << SIGNIFICAND_DIGITS))
             | exponent << SIGNIFICAND_DIGITS
     }
 }
 
+const MIDDLE: u64 = 1 << (SIGNIFICAND_DIGITS - 1);
+
+/// The ends and the middle of the significands, with their neighbours.
+pub const EDGE_SIGNIFICANDS: [u64; 8] = [
+    0,
+    1,
+    2,
+    MIDDLE - 1,
+    MIDDLE,
+    MIDDLE + 1,
+    SIGNIFICAND - 1,
+    SIGNIFICAND,
+];
+
 /// Patterns at and beside the places where rounding, order or conversion change.
 fn edges() -> Vec<u64> {
     let mut positive = Vec::new();
     // Every exponent field: zeros, subnormals, infinities, quiet and signaling NaNs among them.
     for exponent in 0..EXPONENT_FIELDS {
-        let middle = 1 << (SIGNIFICAND_DIGITS - 1);
-        for significand in [
-            0,
-            1,
-            2,
-            middle - 1,
-            middle,
-            middle + 1,
-            SIGNIFICAND - 1,
-            SIGNIFICAND,
-        ] {
+        for significand in EDGE_SIGNIFICANDS {
             positive.push(exponent << SIGNIFICAND_DIGITS | significand);
         }
     }

@@ -5,16 +5,20 @@ use crate::patterns::{Vectors, RANDOM};
 use icotable_oracle as rust;
 use koshirga::Vector3;
 
-pub const CHECKS: &[Check] = &[
-    Check::new("dot", dot),
-    Check::new("cross", cross),
-    Check::new("minus", minus),
-    Check::new("plus", plus),
-    Check::new("scale", scale),
-    Check::new("divide", divide),
-    Check::new("norm_squared", norm_squared),
-    Check::new("direction", direction),
-];
+pub fn checks() -> Vec<Check> {
+    vec![
+        Check::new("dot", dot),
+        Check::new("cross", cross),
+        Check::new("minus", minus),
+        Check::new("plus", plus),
+        Check::new("scale", scale),
+        Check::new("divide", divide),
+        Check::new("norm_squared", norm_squared),
+        Check::new("norm", norm),
+        Check::new("normalize", normalize),
+        Check::new("direction", direction),
+    ]
+}
 
 fn rust_of(v: Vector3) -> rust::Vector3 {
     rust::Vector3::new(v.x, v.y, v.z)
@@ -34,6 +38,13 @@ fn compare_vectors(
 ) {
     let all = same(ours.x, rust.x) && same(ours.y, rust.y) && same(ours.z, rust.z);
     tally.compare(all, || format!("{input:?}: {ours:?}, Rust {rust:?}"));
+}
+
+fn each_vector(seed: u64, mut visit: impl FnMut(Vector3)) {
+    let mut vectors = Vectors::new(seed);
+    for _ in 0..RANDOM {
+        visit(vectors.vector());
+    }
 }
 
 fn each_pair(seed: u64, mut visit: impl FnMut(Vector3, Vector3)) {
@@ -89,11 +100,21 @@ fn divide(tally: &mut Tally) {
 }
 
 fn norm_squared(tally: &mut Tally) {
-    let mut vectors = Vectors::new(17);
-    for _ in 0..RANDOM {
-        let v = vectors.vector();
-        compare_numbers(tally, v, v.norm_squared(), rust_of(v).norm_squared());
-    }
+    each_vector(17, |v| {
+        compare_numbers(tally, v, v.norm_squared(), rust_of(v).norm_squared())
+    });
+}
+
+fn norm(tally: &mut Tally) {
+    each_vector(19, |v| {
+        compare_numbers(tally, v, v.norm(), rust_of(v).norm())
+    });
+}
+
+fn normalize(tally: &mut Tally) {
+    each_vector(20, |v| {
+        compare_vectors(tally, v, v.normalize(), rust_of(v).normalize())
+    });
 }
 
 /// Document 01, row 9 as row 5: "a non-finite component or computed squared length outside

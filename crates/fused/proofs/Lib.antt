@@ -1,0 +1,7 @@
+pub mod StickySum
+pub mod Align
+pub mod Values
+pub mod Operands
+pub mod Outcomes
+pub mod Special
+pub mod Cases

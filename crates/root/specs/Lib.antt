@@ -1,0 +1,3 @@
+pub mod Root
+pub mod Middle
+pub mod Digits

@@ -1,0 +1,11 @@
+pub mod Compare
+pub mod Nearest
+pub mod RoundSticky
+pub mod BitPattern
+pub mod RoundWord
+pub mod Sum
+pub mod Fields
+pub mod Normalise
+pub mod Finite
+pub mod NearestDigits
+pub mod TiesToEven
