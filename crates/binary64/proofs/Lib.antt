@@ -10,3 +10,4 @@ pub mod Integral
 pub mod FloorSteps
 pub mod Convert
 pub mod ConvertSteps
+pub mod NotNan

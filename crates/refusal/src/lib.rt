@@ -1,4 +1,4 @@
-// Why a call is refused.
+// Why a call is refused, and what a chain of checks found.
 ghost use mathlib.Core.Path.{_≡_};
 ghost use Rattle.refusal.specs.Refusal.{refusal};
 
@@ -13,4 +13,10 @@ impl Refusal {
     {
         Self { number }
     }
+}
+
+// What the rows of a chain found: the first that refuses, or none.
+pub enum Verdict {
+    Passed,
+    Refused(Refusal),
 }

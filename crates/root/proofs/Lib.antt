@@ -5,3 +5,4 @@ pub mod StickyRoot
 pub mod HalfExponent
 pub mod Operands
 pub mod Cases
+pub mod Positive

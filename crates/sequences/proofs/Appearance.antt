@@ -12,9 +12,10 @@ use mathlib.Core.List.{List}
 use lib.Dec.{ltb}
 use lib.ListN.{getD}
 use borrow.Author.Tests.{ltb-true, ltb-false, eqb-true, eq-eqb}
+use Rattle.sequences.specs.Range.{someBelow}
 use Rattle.sequences.specs.Filter.{filterRange}
 use Rattle.sequences.specs.Appearance.{firstBelow, First, IsEquality, firstSlot, isFirst, appearances, appearanceId}
-use Rattle.sequences.proofs.Range.{last-or-below}
+use Rattle.sequences.proofs.Range.{last-or-below, true-false, below-or-from, some-below-at}
 use Rattle.sequences.proofs.Tabulate.{getD-member}
 use Rattle.sequences.proofs.Ascending.{ascending-distinct, distinct-at}
 use Rattle.sequences.proofs.Filter.{filter-range-place, filter-range-member, filter-range-ascending}
@@ -127,3 +128,11 @@ module _ {same : ℕ → ℕ → Bool} (equality : IsEquality same) where
       let m = filter-range-member (isFirst same) n s (getD-member l i 0 lt) in
       let e : firstSlot same s ≡ s = is-first-slot same s (m .1) in
       distinct-at l (appearanceId same s) i 0 (ascending-distinct l (filter-range-ascending (isFirst same) n)) (id-below n s (m .0)) lt (appearance-at n s 0 (m .0) ∙ e)
+
+-- ---- where some number passes the first is found
+pub first-found : (p : ℕ → Bool) (n : ℕ) → someBelow p n ≡ true → (firstBelow p n < n) × (p (firstBelow p n) ≡ true)
+first-found p n h = go (below-or-from (firstBelow p n) n)
+  where
+    go : (firstBelow p n < n) ⊎ (n ≤ firstBelow p n) → (firstBelow p n < n) × (p (firstBelow p n) ≡ true)
+    go (inl lt) = (lt, first-below p n .passes lt)
+    go (inr le) = let r = some-below-at p n h in absurd (true-false (p (r .0)) (r .2) (first-below p n .none-before (r .0) (omega (arith, r .1))))

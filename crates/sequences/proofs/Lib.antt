@@ -10,3 +10,4 @@ pub mod Least
 pub mod Appearance
 pub mod Slabs
 pub mod Cases
+pub mod Relations

@@ -466,3 +466,8 @@ module _ {n : ℕ} {q : List ℕ} (h : IsPermutation n q) {S E : List ℕ} (rows
 -- the entries are as many as they were: they can be rewritten in place
 pub relabelled-rows-total : {n : ℕ} {q S E : List ℕ} → IsPermutation n q → CompressedRows n S E → startOf (relabelled q (part S E)) n ≡ length E
 relabelled-rows-total {n} {q} {S} {E} h rows = relabelled-total h (part S E) ∙ part-start n S E rows n (omega arith) ∙ rows .last
+
+-- the list at the new id i comes from one old list
+pub relabelled-extensional : (q : List ℕ) (lists lists′ : ℕ → List ℕ) (i : ℕ) → lists (at (inverse q) i) ≡ lists′ (at (inverse q) i) → relabelled q lists i ≡ relabelled q lists′ i
+unfolding relabelled
+relabelled-extensional q lists lists′ i e = ap (map (at q)) e

@@ -2,18 +2,18 @@
 -- A loop that tests each index: `all-below-intro` or `all-below-suc` when it passes, `all-below-fails` when it refuses. A passed test gives its fact by `all-below-at`.
 -- A search for one that passes: `some-below-intro`, `some-below-fails`, `some-below-at`.
 -- Marks kept as numbers: `nonzero-marked`, `zero-unmarked`, `marked-by-set`. A sum in another order: `sum-bijection` (Permutation); a one-to-one choice: `sum-injection`, and from it `pigeonhole`.
-use Prim.Native.Nat.{ℕ, zero, suc, _+_, _≤_, _<_}
-use native.Mathlib.Nat.{not-suc-le-zero, eq-or-lt-of-le, le-of-suc-le-suc}
+use Prim.Native.Nat.{ℕ, zero, suc, _+_, _*_, _≤_, _<_}
+use native.Mathlib.Nat.{not-suc-le-zero, eq-or-lt-of-le, le-of-suc-le-suc, mul-add}
 use native.Mathlib.Omega.{arith}
 use native.Mathlib.Numerals.{add-one}
 use mathlib.Core.Path.{_≡_, refl, sym, ap, _∙_}
 use mathlib.Core.Logic.{_⊎_, inl, inr, _≢_}
 use mathlib.Core.Bool.{Bool, true, false, not, _&&_, _||_, cond}
 use mathlib.Core.List.{List}
-use lib.Dec.{eqb}
+use lib.Dec.{ltb, eqb}
 use lib.ListN.{length, getD, set}
 use lib.Seq.{getD-set-same, getD-set-other}
-use borrow.Author.Tests.{eq-eqb, ne-eqb, eqb-true, eqb-false, not-true, not-false}
+use borrow.Author.Tests.{ltb-true, ltb-false, eq-eqb, ne-eqb, eqb-true, eqb-false, not-true, not-false}
 use Rattle.sequences.specs.Range.{allBelow, someBelow, sumBelow, Updated, nonzeroAt}
 
 -- a Boolean is one of two
@@ -202,3 +202,40 @@ unmarked-zero l i h = eqb-true (getD l i 0) 0 (not-false (eqb (getD l i 0) 0) h)
 pub marked-by-set : (n : ℕ) (l : List ℕ) (i : ℕ) → i < length l → Updated n (nonzeroAt l) (nonzeroAt (set l i 1)) i true
 unfolding nonzeroAt
 marked-by-set n l i lt = updated-through (λ k. not (eqb k 0)) (updated-by-set n l i 1 0 lt)
+
+pub true-false : (b : Bool) → b ≡ true → b ≡ false → ⊥
+true-false b t f = let z : _≡_ {A = ℕ} 0 1 = cc in omega arith
+
+-- ---- numbers compared
+pub below-or-from : (a b : ℕ) → (a < b) ⊎ (b ≤ a)
+below-or-from a b = go (true-or-false (ltb a b))
+  where
+    go : (ltb a b ≡ true) ⊎ (ltb a b ≡ false) → (a < b) ⊎ (b ≤ a)
+    go (inl t) = inl (ltb-true a b t)
+    go (inr f) = inr (ltb-false a b f)
+
+pub equal-or-not : (a b : ℕ) → (a ≡ b) ⊎ (a ≢ b)
+equal-or-not a b = go (true-or-false (eqb a b))
+  where
+    go : (eqb a b ≡ true) ⊎ (eqb a b ≡ false) → (a ≡ b) ⊎ (a ≢ b)
+    go (inl t) = inl (eqb-true a b t)
+    go (inr f) = inr (eqb-false a b f)
+
+-- ---- none below n passes
+pub some-below-none : (p : ℕ → Bool) (n i : ℕ) → someBelow p n ≡ false → i < n → p i ≡ false
+some-below-none p n i none lt = go (true-or-false (p i))
+  where
+    go : (p i ≡ true) ⊎ (p i ≡ false) → p i ≡ false
+    go (inl t) = absurd (true-false (someBelow p n) (some-below-intro p n i lt t) none)
+    go (inr f) = f
+
+-- ---- sums of sums and multiples
+pub sum-add : (f g : ℕ → ℕ) (n : ℕ) → sumBelow (λ i. f i + g i) n ≡ sumBelow f n + sumBelow g n
+unfolding sumBelow
+sum-add f g zero = refl
+sum-add f g (suc n) = let e = sum-add f g n in omega arith
+
+pub sum-multiple : (c : ℕ) (f : ℕ → ℕ) (n : ℕ) → sumBelow (λ i. c * f i) n ≡ c * sumBelow f n
+unfolding sumBelow
+sum-multiple c f zero = omega arith
+sum-multiple c f (suc n) = let e = sum-multiple c f n in let d = mul-add c (sumBelow f n) (f n) in omega arith

@@ -1,1 +1,2 @@
 pub mod Admissible
+pub mod NotNan

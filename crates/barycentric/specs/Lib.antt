@@ -1,0 +1,2 @@
+pub mod Weights
+pub mod Ericson

@@ -1,0 +1,90 @@
+// Barycentric weights of a point in a triangle, and the least of them.
+ghost use mathlib.Core.Path.{_≡_};
+ghost use Rattle.barycentric.specs.Weights.{weights, lesser, leastWeight};
+ghost use Rattle.barycentric.specs.Ericson.{projectedBarycentric};
+use fused::mul_add;
+use vector::Vector3;
+
+// The ids of a triangle's corners, as both locators answer them.
+pub struct Triple {
+    pub first: u16,
+    pub second: u16,
+    pub third: u16,
+}
+
+// The weights of a triangle's corners, in their order.
+pub struct Weights {
+    pub u: f64,
+    pub v: f64,
+    pub w: f64,
+}
+
+impl Weights {
+    pub fn new(u: f64, v: f64, w: f64) -> Self
+        ensures { λ r. ⌜ r ≡ weights u v w ⌝ }
+    {
+        Self { u, v, w }
+    }
+}
+
+// The weights of the point of the triangle a, b, c that is closest to p (Ericson, Real-Time Collision Detection, pp. 141–142).
+pub fn projected_barycentric(p: Vector3, a: Vector3, b: Vector3, c: Vector3) -> Weights
+    ensures { λ r. ⌜ r ≡ projectedBarycentric p a b c ⌝ }
+{
+    let ab = b.minus(a);
+    let ac = c.minus(a);
+    let ap = p.minus(a);
+    let d1 = ab.dot(ap);
+    let d2 = ac.dot(ap);
+    if (d1 <= 0.0) & (d2 <= 0.0) {
+        return Weights::new(1.0, 0.0, 0.0);
+    }
+    let bp = p.minus(b);
+    let d3 = ab.dot(bp);
+    let d4 = ac.dot(bp);
+    if (d3 >= 0.0) & (d4 <= d3) {
+        return Weights::new(0.0, 1.0, 0.0);
+    }
+    let vc = mul_add(d1, d4, -(d3 * d2));
+    if (vc <= 0.0) & (d1 >= 0.0) & (d3 <= 0.0) {
+        let v = d1 / (d1 - d3);
+        return Weights::new(1.0 - v, v, 0.0);
+    }
+    let cp = p.minus(c);
+    let d5 = ab.dot(cp);
+    let d6 = ac.dot(cp);
+    if (d6 >= 0.0) & (d5 <= d6) {
+        return Weights::new(0.0, 0.0, 1.0);
+    }
+    let vb = mul_add(d5, d2, -(d1 * d6));
+    if (vb <= 0.0) & (d2 >= 0.0) & (d6 <= 0.0) {
+        let w = d2 / (d2 - d6);
+        return Weights::new(1.0 - w, 0.0, w);
+    }
+    let va = mul_add(d3, d6, -(d5 * d4));
+    if (va <= 0.0) & (d4 - d3 >= 0.0) & (d5 - d6 >= 0.0) {
+        let w = (d4 - d3) / ((d4 - d3) + (d5 - d6));
+        return Weights::new(0.0, 1.0 - w, w);
+    }
+    let denom = 1.0 / (va + vb + vc);
+    let v = vb * denom;
+    let w = vc * denom;
+    Weights::new(1.0 - v - w, v, w)
+}
+
+// The lesser of two weights. A NaN is skipped, and the earlier of equals stays.
+pub fn lesser_weight(earlier: f64, later: f64) -> f64
+    ensures { λ r. ⌜ r ≡ lesser earlier later ⌝ }
+{
+    if earlier != earlier {
+        return later;
+    }
+    if later < earlier { later } else { earlier }
+}
+
+// The least of three weights, NaN only where all three are.
+pub fn least_weight(t: Weights) -> f64
+    ensures { λ r. ⌜ r ≡ leastWeight t ⌝ }
+{
+    lesser_weight(lesser_weight(t.u, t.v), t.w)
+}

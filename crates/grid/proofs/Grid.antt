@@ -1,0 +1,73 @@
+-- Laws of the grid builder: what it accepted, cut to a grid's lengths, is the grid of the mesh. Assumes nothing.
+use Prim.Native.Nat.{ℕ, suc, _*_}
+use native.Mathlib.Omega.{arith}
+use mathlib.Core.Path.{_≡_, refl, sym, ap, _∙_}
+use mathlib.Core.List.{flatten}
+use lib.ListN.{length, getD}
+use Rattle.sequences.specs.Tabulate.{overwrite}
+use Rattle.sequences.proofs.Tabulate.{take-overwrite, overwrite-at}
+use Rattle.sequences.proofs.Starts.{length-starts, starts-at, length-concatenate, start-scaled}
+use Rattle.refusal.specs.declared.Verdict.the-variants.{Passed}
+use Rattle.refusal.proofs.Rows.{answer-passed}
+use Rattle.mesh.specs.Mesh.{Mesh, count}
+use Rattle.grid.specs.declared.Build.the-variants.{Built}
+use Rattle.grid.specs.Cells.{sideOf, cellCount}
+use Rattle.grid.specs.Triangles.{trianglesAt}
+use Rattle.grid.specs.Grid.{GridSlices, BuildOutcome, idsIn, gridOf, buildRows, filled, build, cut}
+use Rattle.grid.proofs.Triangles.{triples-length}
+
+-- ---- the lengths of a grid, and where its starts end
+module _ (m : Mesh) where
+  pub cell-starts-length : length (gridOf m .cellStarts) ≡ suc (cellCount (gridOf m .side))
+  unfolding gridOf
+  cell-starts-length = length-starts (cellCount (sideOf (count m))) (idsIn m)
+
+  pub cell-starts-last : getD (gridOf m .cellStarts) (cellCount (gridOf m .side)) 0 ≡ length (gridOf m .cellIds)
+  unfolding gridOf
+  cell-starts-last =
+      let cells : ℕ = cellCount (sideOf (count m)) in
+      starts-at cells (idsIn m) cells (omega arith) ∙ sym (length-concatenate cells (idsIn m))
+
+  pub triangle-starts-length : length (gridOf m .triangleStarts) ≡ suc (count m)
+  unfolding gridOf
+  triangle-starts-length = length-starts (count m) (trianglesAt m)
+
+  pub triangle-starts-last : getD (gridOf m .triangleStarts) (count m) 0 * 3 ≡ length (gridOf m .triples)
+  unfolding gridOf
+  triangle-starts-last =
+      ap (λ (k : ℕ). k * 3) (starts-at (count m) (trianglesAt m) (count m) (omega arith))
+      ∙ sym (start-scaled 3 (count m) (trianglesAt m) (λ v. flatten (trianglesAt m v)) (λ v lt. triples-length m v))
+      ∙ sym (length-concatenate (count m) (λ v. flatten (trianglesAt m v)))
+
+  -- ---- an accepted call
+  pub built-rows : (lent : GridSlices) (g : ℕ) → build m lent .answered ≡ Built g → buildRows m lent ≡ Passed
+  unfolding build
+  built-rows lent g h =
+      answer-passed (λ (o : BuildOutcome). o .answered ≡ Built g) (buildRows m lent) _ _ h
+      (λ reason e. let z : _≡_ {A = ℕ} 0 1 = cc in omega arith)
+
+  built-side : (lent : GridSlices) (g : ℕ) → buildRows m lent ≡ Passed → build m lent .answered ≡ Built g → g ≡ gridOf m .side
+  unfolding build gridOf
+  built-side lent g ok h = let e : Built (sideOf (count m)) ≡ Built g = rw ok at h in cc
+
+  built-slices : (lent : GridSlices) → buildRows m lent ≡ Passed → build m lent .slices ≡ filled (gridOf m) lent
+  unfolding build
+  built-slices lent ok = rw ok refl
+
+  cut-filled : (lent : GridSlices) → cut (count m) (gridOf m .side) (filled (gridOf m) lent) ≡ gridOf m
+  unfolding cut filled
+  cut-filled lent =
+      let G = gridOf m in
+      let cells = cellCount (G .side) in
+      let cell-starts = take-overwrite (G .cellStarts) (lent .cellStarts) (suc cells) cell-starts-length in
+      let cell-ids = take-overwrite (G .cellIds) (lent .cellIds) (getD (overwrite (G .cellStarts) (lent .cellStarts)) cells 0)
+      (sym cell-starts-last ∙ sym (overwrite-at (G .cellStarts) (lent .cellStarts) cells 0 (omega (arith, cell-starts-length)))) in
+      let triangle-starts = take-overwrite (G .triangleStarts) (lent .triangleStarts) (suc (count m)) triangle-starts-length in
+      let triples = take-overwrite (G .triples) (lent .triples) (getD (overwrite (G .triangleStarts) (lent .triangleStarts)) (count m) 0 * 3)
+      (sym triangle-starts-last ∙ ap (λ (k : ℕ). k * 3) (sym (overwrite-at (G .triangleStarts) (lent .triangleStarts) (count m) 0 (omega (arith, triangle-starts-length))))) in
+      rw (cell-starts, cell-ids, triangle-starts, triples) refl
+
+  pub cut-build : (lent : GridSlices) (g : ℕ) → build m lent .answered ≡ Built g → cut (count m) g (build m lent .slices) ≡ gridOf m
+  cut-build lent g h =
+      let ok = built-rows lent g h in
+      rw (built-side lent g ok h, built-slices lent ok) (cut-filled lent)

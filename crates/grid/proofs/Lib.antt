@@ -1,0 +1,4 @@
+pub mod Cells
+pub mod Triangles
+pub mod Grid
+pub mod Room

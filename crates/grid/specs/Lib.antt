@@ -1,0 +1,4 @@
+pub mod CubeFace
+pub mod Cells
+pub mod Triangles
+pub mod Grid

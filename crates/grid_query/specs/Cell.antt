@@ -1,0 +1,79 @@
+-- The cell of a direction, and what a query asks of a grid before it reads the cell (document 01, "Cube grid" and below the table of refusals). Definitions only.
+use Prim.Native.Nat.{ℕ, suc, _+_, _-_, _*_}
+use mathlib.Core.Bool.{Bool, _&&_, cond}
+use mathlib.Core.List.{List, [], _∷_}
+use lib.Dec.{leb, ltb, eqb}
+use lib.ListN.{length, getD}
+use lib.Ieee.{Float, lt, toUnsigned}
+use Rattle.sequences.specs.Range.{allBelow}
+use Rattle.sequences.specs.Starts.{part, blockPart}
+use Rattle.refusal.specs.declared.Verdict.{Verdict}
+use Rattle.refusal.specs.declared.Verdict.the-variants.{Passed}
+use Rattle.refusal.specs.Refusal.{refusal, row}
+use Rattle.vector.specs.declared.Vector3.{Vector3}
+use Rattle.vector.specs.Vector.{normalized}
+use Rattle.vector.specs.Direction.{admissible}
+use Rattle.mesh.specs.Mesh.{vertexCount}
+use Rattle.mesh.specs.Rows.{positionsFit}
+use Rattle.grid.specs.declared.Projected.{Projected}
+use Rattle.grid.specs.CubeFace.{zeroFloat, faceProjection, dominantFace}
+use Rattle.grid.specs.Cells.{whole, sideOf, cellCount, acrossCells}
+use Rattle.grid.specs.Grid.{Grid}
+
+-- A query "clamps to 0..g − 1 before it converts".
+unfoldable pub clampedCell : ℕ → Float → ℕ
+clampedCell g x = toUnsigned 64 (cond (lt x zeroFloat) zeroFloat (cond (lt (whole (g - 1)) x) (whole (g - 1)) x))
+
+-- The cell of a direction that is normalised already: "face·g·g + ci·g + cj".
+unfoldable pub cellOf : ℕ → Vector3 → ℕ
+cellOf g direction =
+    let face = dominantFace direction in
+    let p = faceProjection face direction in
+    face * (g * g) + (clampedCell g (acrossCells g (p .u) (p .d)) * g + clampedCell g (acrossCells g (p .w) (p .d)))
+
+-- "A query normalises its direction first".
+abbrev pub cellOfQuery : Grid → Vector3 → ℕ
+cellOfQuery grid direction = cellOf (grid .side) (normalized direction)
+
+-- "A grid query checks count, positions and g against the count (2)"
+unfoldable pub gridFits : Grid → List Float → Bool
+gridFits grid positions = positionsFit positions && eqb (grid .side) (sideOf (vertexCount positions))
+
+-- "the lengths of both start lists (3)"
+unfoldable pub startsCounted : Grid → List Float → Bool
+startsCounted grid positions =
+    eqb (length (grid .cellStarts)) (suc (cellCount (grid .side))) && eqb (length (grid .triangleStarts)) (suc (vertexCount positions))
+
+-- "a part that falls or runs past the ids (3)": the part i by its starts, of a list that has so many places.
+unfoldable pub partFits : List ℕ → ℕ → ℕ → Bool
+partFits starts places i = leb (getD starts i 0) (getD starts (suc i) 0) && leb (getD starts (suc i) 0) places
+
+-- "an id (4)": each one below the count.
+unfoldable pub idsBelow : ℕ → List ℕ → Bool
+idsBelow n ids = allBelow (λ i. ltb (getD ids i 0) n) (length ids)
+
+-- "Candidates are the ids in the direction's cell".
+unfoldable pub candidates : Grid → ℕ → List ℕ
+candidates grid cell = part (grid .cellStarts) (grid .cellIds) cell
+
+-- A list of ids as triples, three ids each.
+unfoldable pub inTriples : List ℕ → List (List ℕ)
+inTriples [] = []
+inTriples (a ∷ []) = []
+inTriples (a ∷ b ∷ []) = []
+inTriples (a ∷ b ∷ c ∷ rest) = (a ∷ b ∷ c ∷ []) ∷ inTriples rest
+
+-- The triples listed at the vertex v: triangle starts are "in whole triples".
+unfoldable pub triplesAt : Grid → ℕ → List (List ℕ)
+triplesAt grid v = inTriples (blockPart 3 (grid .triangleStarts) (grid .triples) v)
+
+-- Rows 2, 3, 9, then in the direction's cell 3, 11, 4.
+unfoldable pub cellRows : Grid → List Float → Vector3 → Verdict
+cellRows grid positions direction =
+    let cell = cellOfQuery grid direction in
+    row (gridFits grid positions) (refusal 2)
+    (row (startsCounted grid positions) (refusal 3)
+    (row (admissible direction) (refusal 9)
+    (row (partFits (grid .cellStarts) (length (grid .cellIds)) cell) (refusal 3)
+    (row (ltb 0 (length (candidates grid cell))) (refusal 11)
+    (row (idsBelow (vertexCount positions) (candidates grid cell)) (refusal 4) Passed)))))

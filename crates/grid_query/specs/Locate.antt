@@ -1,0 +1,68 @@
+-- The location query of a grid (document 01, "Weights and grid location"). Definitions only.
+use Prim.Native.Nat.{ℕ, suc, _*_}
+use mathlib.Core.Bool.{Bool, true, _&&_, cond}
+use mathlib.Core.List.{List, [], _∷_}
+use lib.Dec.{leb}
+use lib.ListN.{length, getD}
+use lib.Ieee.{Float, inf, lt}
+use Rattle.sequences.specs.Starts.{blockPart}
+use Rattle.refusal.specs.declared.Verdict.{Verdict}
+use Rattle.refusal.specs.declared.Verdict.the-variants.{Passed}
+use Rattle.refusal.specs.Refusal.{refusal, row, answer}
+use Rattle.vector.specs.declared.Vector3.{Vector3}
+use Rattle.vector.specs.Vector.{normalized}
+use Rattle.barycentric.specs.declared.Triple.{Triple}
+use Rattle.barycentric.specs.declared.Weights.{Weights}
+use Rattle.barycentric.specs.Weights.{leastWeight}
+use Rattle.barycentric.specs.Ericson.{projectedBarycentric}
+use Rattle.mesh.specs.Mesh.{vertexCount, positionOf}
+use Rattle.grid.specs.Grid.{Grid}
+use Rattle.grid_query.specs.declared.Located.{Located}
+use Rattle.grid_query.specs.declared.Located.the-variants.{Refused, At}
+use Rattle.grid_query.specs.Cell.{cellOfQuery, candidates, idsBelow, triplesAt, cellRows}
+use Rattle.grid_query.specs.Nearest.{nearestOf}
+
+abbrev pub tripleOf : ℕ → ℕ → ℕ → Triple
+tripleOf first second third = record { first = first; second = second; third = third }
+
+-- A triangle as an answer.
+abbrev pub located : Triple → Weights → Located
+located triple weights = At triple weights (leastWeight weights)
+
+-- A listed triangle, weighed for a direction. A list that is no triple, which no part of a grid gives, is row 12's.
+unfoldable pub weighed : List Float → Vector3 → List ℕ → Located
+weighed positions direction [] = Refused (refusal 12)
+weighed positions direction (a ∷ []) = Refused (refusal 12)
+weighed positions direction (a ∷ b ∷ []) = Refused (refusal 12)
+weighed positions direction (a ∷ b ∷ c ∷ rest) =
+    located (tripleOf a b c) (projectedBarycentric direction (positionOf positions a) (positionOf positions b) (positionOf positions c))
+
+-- The least that a triangle has to exceed: that of the one kept, "from minus infinity".
+abbrev pub leastKept : Located → Float
+leastKept (Refused reason) = inf true
+leastKept (At triple weights least) = least
+
+-- "The triangle kept is the first whose least exceeds all earlier leasts". A NaN exceeds nothing, and is no least that a later one would have to exceed.
+unfoldable pub keptOf : List Float → Vector3 → Located → List (List ℕ) → Located
+keptOf positions direction kept [] = kept
+keptOf positions direction kept (t ∷ ts) =
+    let next = weighed positions direction t in
+    keptOf positions direction (cond (lt (leastKept kept) (leastKept next)) next kept) ts
+
+-- "for a triangle the same at the nearest vertex (3, 4)": a part that falls or runs past the triples, and the ids of every triple there.
+unfoldable pub triplesFit : Grid → ℕ → Bool
+triplesFit grid v =
+    leb (getD (grid .triangleStarts) v 0) (getD (grid .triangleStarts) (suc v) 0) && leb (getD (grid .triangleStarts) (suc v) 0 * 3) (length (grid .triples))
+
+unfoldable pub triangleRows : Grid → List Float → ℕ → Verdict
+triangleRows grid positions v =
+    row (triplesFit grid v) (refusal 3)
+    (row (idsBelow (vertexCount positions) (blockPart 3 (grid .triangleStarts) (grid .triples) v)) (refusal 4) Passed)
+
+-- The whole outcome of a location. Nothing is lent for writing. Row 12 refuses where "no least above minus infinity" is found.
+unfoldable pub locate : Grid → List Float → Vector3 → Located
+locate grid positions direction =
+    let nearest = nearestOf positions (normalized direction) (candidates grid (cellOfQuery grid direction)) in
+    answer (cellRows grid positions direction) Refused
+    (answer (triangleRows grid positions nearest) Refused
+    (keptOf positions (normalized direction) (Refused (refusal 12)) (triplesAt grid nearest)))

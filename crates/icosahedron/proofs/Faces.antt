@@ -1,0 +1,24 @@
+-- Laws of the master faces: every corner is one of the twelve points. Assumes nothing.
+use mathlib.Core.Bool.{Bool, true, false, _&&_}
+use mathlib.Core.List.{List, [], _∷_}
+use Prim.Native.Nat.{ℕ, zero, suc, _+_, _*_, _<_}
+use native.Mathlib.Omega.{arith}
+use lib.Dec.{T, ltb, ltb→lt}
+use lib.Ieee.Fits.{and-l, and-r}
+use lib.ListN.{getD}
+use Rattle.icosahedron.specs.Icosahedron.{faceVertices, faceCorner}
+
+-- all entries of a list lie below a bound, as a test
+abbrev pub allBelow : ℕ → List ℕ → Bool
+allBelow bound [] = true
+allBelow bound (x ∷ xs) = ltb x bound && allBelow bound xs
+
+-- Where all entries lie below a bound above 0, so does what is read anywhere: past the end that is 0.
+pub all-below : (bound : ℕ) (xs : List ℕ) → 0 < bound → T (allBelow bound xs) → (k : ℕ) → getD xs k 0 < bound
+all-below bound [] z t k = z
+all-below bound (x ∷ xs) z t zero = ltb→lt x bound (and-l (ltb x bound) (allBelow bound xs) t)
+all-below bound (x ∷ xs) z t (suc k) = all-below bound xs z (and-r (ltb x bound) (allBelow bound xs) t) k
+
+pub face-corner-below : (face corner : ℕ) → faceCorner face corner < 12
+unfolding faceCorner
+face-corner-below face corner = all-below 12 faceVertices (omega arith) tt (face * 3 + corner)

@@ -1,0 +1,3 @@
+pub mod Arms
+pub mod Faces
+pub mod Slots

@@ -1,0 +1,14 @@
+-- The slots of a master face's lattice points, and the numbers that belong to a frequency. Definitions only.
+use Prim.Native.Nat.{ℕ, _+_, _-_, _*_, _/_}
+
+-- Document 01, "Lattice of frequency n": "Slot of (a, b) in its face: a(n + 1) − a(a − 1)/2 + b". At a = 0 the product a(a − 1) is 0.
+unfoldable pub slotOf : ℕ → ℕ → ℕ → ℕ
+slotOf n a b = a * (n + 1) - a * (a - 1) / 2 + b
+
+-- "the twenty faces' slots, (n + 1)(n + 2)/2 each, one face behind another"
+unfoldable pub slotsPerFace : ℕ → ℕ
+slotsPerFace n = (n + 1) * (n + 2) / 2
+
+-- "Counts: 10n² + 2 vertices"
+unfoldable pub vertexCount : ℕ → ℕ
+vertexCount n = 10 * (n * n) + 2

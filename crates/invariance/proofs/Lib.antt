@@ -1,0 +1,3 @@
+pub mod AfterCalls
+pub mod Grids
+pub mod Invariance

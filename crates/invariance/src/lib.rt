@@ -1,0 +1,1 @@
+// What stays the same under every list of renumberings: theorems over the definitions of the crates below, and no code.

@@ -1,0 +1,13 @@
+pub mod Corners
+pub mod Keys
+pub mod Points
+pub mod Vertices
+pub mod PointKinds
+pub mod SharedFaces
+pub mod Order
+pub mod Slots
+pub mod Counts
+pub mod Neighbours
+pub mod Moves
+pub mod ListLengths
+pub mod Rows

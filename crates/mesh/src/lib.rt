@@ -1,0 +1,185 @@
+// Rows 2 to 6 of document 01's table: what an operation asks of the mesh that it is lent, and of a permutation of its ids.
+ghost use mathlib.Core.Path.{_≡_};
+ghost use mathlib.Core.Bool.{true};
+ghost use mathlib.Core.List.{[]};
+ghost use Prim.Native.Nat.{suc, _*_, _+_, _≤_, _<_};
+ghost use lib.ListN.{length};
+ghost use Rattle.sequences.specs.Permutation.{isPermutation};
+ghost use Rattle.mesh.specs.Mesh.{meshOf, vertexCount, positionOf};
+ghost use Rattle.mesh.specs.Rows.{greatestCount, positionsFit, startsCounted, startsSpan, startsAscend, listsLimited, entriesBelow, positionsAdmissible, adjacencyRows, meshRows};
+use refusal::Refusal;
+use refusal::Verdict;
+use vector::Vector3;
+
+// How many vertices the positions are for.
+pub fn vertex_count(positions: &[f64]) -> usize
+    ensures { λ r. ⌜ r ≡ vertexCount (now (positions .entry)) ⌝ }
+{
+    positions.len() / 3
+}
+
+// The position of a vertex.
+pub fn position(positions: &[f64], vertex: usize) -> Vector3
+    requires { ⌜ vertex * 3 + 2 < length (now positions) ⌝ }
+    ensures { λ r. ⌜ r ≡ positionOf (now (positions .entry)) vertex ⌝ }
+{
+    Vector3::new(
+        positions[vertex * 3],
+        positions[vertex * 3 + 1],
+        positions[vertex * 3 + 2],
+    )
+}
+
+// Row 2.
+fn positions_fit(positions: &[f64]) -> bool
+    ensures { λ r. ⌜ r ≡ positionsFit (now (positions .entry)) ⌝ }
+{
+    let count = positions.len() / 3;
+    (positions.len() % 3 == 0) & ((1 <= count) & (count <= 65536))
+}
+
+// Row 3: the starts have their length.
+fn starts_counted(positions: &[f64], starts: &[u32]) -> bool
+    ensures { λ r. ⌜ r ≡ startsCounted (meshOf (now (positions .entry)) (now (starts .entry)) []) ⌝ }
+{
+    starts.len() == positions.len() / 3 + 1
+}
+
+// Row 3: the starts begin at 0 and end at the entry count.
+fn starts_span(positions: &[f64], starts: &[u32], entries: &[u16]) -> bool
+    requires { ⌜ length (now starts) ≡ suc (vertexCount (now positions)) ⌝ }
+    ensures { λ r. ⌜ r ≡ startsSpan (meshOf (now (positions .entry)) (now (starts .entry)) (now (entries .entry))) ⌝ }
+{
+    let count = positions.len() / 3;
+    (starts[0] == 0) & (starts[count] as usize == entries.len())
+}
+
+// Row 3: no start falls.
+fn starts_ascend(positions: &[f64], starts: &[u32]) -> bool
+    requires { ⌜ length (now starts) ≡ suc (vertexCount (now positions)) ⌝ }
+    ensures { λ r. ⌜ r ≡ startsAscend (meshOf (now (positions .entry)) (now (starts .entry)) []) ⌝ }
+{
+    let count = positions.len() / 3;
+    let mut vertex = 0;
+    while vertex < count {
+        if starts[vertex] > starts[vertex + 1] {
+            return false;
+        }
+        vertex += 1;
+    }
+    true
+}
+
+// Row 3: no neighbour list is over 32.
+fn lists_limited(positions: &[f64], starts: &[u32]) -> bool
+    requires { ⌜ length (now starts) ≡ suc (vertexCount (now positions)) ⌝ ∗ ⌜ startsAscend (meshOf (now positions) (now starts) []) ≡ true ⌝ }
+    ensures { λ r. ⌜ r ≡ listsLimited (meshOf (now (positions .entry)) (now (starts .entry)) []) ⌝ }
+{
+    let count = positions.len() / 3;
+    let mut vertex = 0;
+    while vertex < count {
+        if starts[vertex + 1] - starts[vertex] > 32 {
+            return false;
+        }
+        vertex += 1;
+    }
+    true
+}
+
+// Row 4.
+fn entries_below(positions: &[f64], entries: &[u16]) -> bool
+    ensures { λ r. ⌜ r ≡ entriesBelow (meshOf (now (positions .entry)) [] (now (entries .entry))) ⌝ }
+{
+    let count = positions.len() / 3;
+    let mut i = 0;
+    while i < entries.len() {
+        if entries[i] as usize >= count {
+            return false;
+        }
+        i += 1;
+    }
+    true
+}
+
+// Row 5.
+fn positions_admissible(positions: &[f64]) -> bool
+    ensures { λ r. ⌜ r ≡ positionsAdmissible (now (positions .entry)) ⌝ }
+{
+    let count = positions.len() / 3;
+    let mut vertex = 0;
+    while vertex < count {
+        let here = position(positions, vertex);
+        if !here.is_admissible() {
+            return false;
+        }
+        vertex += 1;
+    }
+    true
+}
+
+// Rows 2 to 4, which every operation on a mesh begins with.
+pub fn check_adjacency(positions: &[f64], starts: &[u32], entries: &[u16]) -> Verdict
+    ensures { λ r. ⌜ r ≡ adjacencyRows (meshOf (now (positions .entry)) (now (starts .entry)) (now (entries .entry))) ⌝ }
+{
+    if !positions_fit(positions) {
+        return Verdict::Refused(Refusal::new(2));
+    }
+    if !starts_counted(positions, starts) {
+        return Verdict::Refused(Refusal::new(3));
+    }
+    if !starts_span(positions, starts, entries) {
+        return Verdict::Refused(Refusal::new(3));
+    }
+    if !starts_ascend(positions, starts) {
+        return Verdict::Refused(Refusal::new(3));
+    }
+    if !lists_limited(positions, starts) {
+        return Verdict::Refused(Refusal::new(3));
+    }
+    if !entries_below(positions, entries) {
+        return Verdict::Refused(Refusal::new(4));
+    }
+    Verdict::Passed
+}
+
+// Rows 2 to 5, with which the grid's builder begins.
+pub fn check_mesh(positions: &[f64], starts: &[u32], entries: &[u16]) -> Verdict
+    ensures { λ r. ⌜ r ≡ meshRows (meshOf (now (positions .entry)) (now (starts .entry)) (now (entries .entry))) ⌝ }
+{
+    let adjacency = check_adjacency(positions, starts, entries);
+    match adjacency {
+        Verdict::Refused(reason) => Verdict::Refused(reason),
+        Verdict::Passed => {
+            if positions_admissible(positions) {
+                Verdict::Passed
+            } else {
+                Verdict::Refused(Refusal::new(5))
+            }
+        }
+    }
+}
+
+// Row 6: a permutation of the ids below the count. The marks stand in the call's own frame, since this row comes before row 8 and a
+// refused call leaves lent scratch as it was.
+pub fn is_permutation(permutation: &[u32], count: usize) -> bool
+    requires { ⌜ count ≤ greatestCount ⌝ }
+    ensures { λ r. ⌜ r ≡ isPermutation count (now (permutation .entry)) ⌝ }
+{
+    if permutation.len() != count {
+        return false;
+    }
+    let mut marked: [u8; 65536] = [0; 65536];
+    let mut vertex = 0;
+    while vertex < count {
+        let id = permutation[vertex] as usize;
+        if id >= count {
+            return false;
+        }
+        if marked[id] != 0 {
+            return false;
+        }
+        marked[id] = 1;
+        vertex += 1;
+    }
+    true
+}

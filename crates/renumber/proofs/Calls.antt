@@ -1,0 +1,47 @@
+-- Laws of one renumbering call: what an accepted one has, and what is left of mesh and data. Assumes nothing.
+use Prim.Native.Nat.{ℕ}
+use mathlib.Core.Path.{_≡_, refl}
+use mathlib.Core.Bool.{true}
+use mathlib.Core.List.{List}
+use lib.Ieee.{Float}
+use Rattle.sequences.specs.Permutation.{IsPermutation, isPermutation}
+use Rattle.sequences.proofs.Permutation.{is-permutation-sound}
+use Rattle.refusal.specs.declared.Refusal.{Refusal}
+use Rattle.refusal.specs.declared.Verdict.the-variants.{Passed, Refused}
+use Rattle.refusal.specs.Refusal.{refusal}
+use Rattle.refusal.proofs.Rows.{row-passed}
+use Rattle.mesh.specs.Mesh.{Mesh, count}
+use Rattle.mesh.proofs.Facts.{AdjacencyFacts, adjacency-passed}
+use Rattle.renumber.specs.Renumber.{Call, entriesPerVertexFit, longestLength, callRows, renumberRows, renumberedMesh, renumberedData, renumber}
+
+-- rows 6 and 7 of an accepted call
+pub accepted-permutation : (n longest : ℕ) (call : Call) → callRows n longest call ≡ Passed → IsPermutation n (call .permutation)
+unfolding callRows
+accepted-permutation n longest call h = is-permutation-sound n (call .permutation) (row-passed (isPermutation n (call .permutation)) (refusal 6) _ h .0)
+
+pub accepted-entries : (n longest : ℕ) (call : Call) → callRows n longest call ≡ Passed → entriesPerVertexFit n (call .entriesPerVertex) ≡ true
+unfolding callRows
+accepted-entries n longest call h =
+    row-passed (entriesPerVertexFit n (call .entriesPerVertex)) (refusal 7) _ (row-passed (isPermutation n (call .permutation)) (refusal 6) _ h .1) .0
+
+-- "The mesh rows can't refuse, as the start passed them."
+pub call-rows-decide : (m : Mesh) → AdjacencyFacts m → (values : List Float) (call : Call) → renumberRows m values call ≡ callRows (count m) (longestLength m values) call
+unfolding renumberRows
+call-rows-decide m facts values call = rw (adjacency-passed m facts) refl
+
+module _ (m : Mesh) (values : List Float) (call : Call) where
+  pub accepted-mesh : renumberRows m values call ≡ Passed → renumber m values call .mesh ≡ renumberedMesh (call .permutation) m
+  unfolding renumber
+  accepted-mesh h = rw h refl
+
+  pub accepted-values : renumberRows m values call ≡ Passed → renumber m values call .values ≡ renumberedData (count m) (call .permutation) (call .entriesPerVertex) values
+  unfolding renumber
+  accepted-values h = rw h refl
+
+  pub refused-mesh : (reason : Refusal) → renumberRows m values call ≡ Refused reason → renumber m values call .mesh ≡ m
+  unfolding renumber
+  refused-mesh reason h = rw h refl
+
+  pub refused-values : (reason : Refusal) → renumberRows m values call ≡ Refused reason → renumber m values call .values ≡ values
+  unfolding renumber
+  refused-values reason h = rw h refl

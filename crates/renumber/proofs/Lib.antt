@@ -1,0 +1,3 @@
+pub mod RenumberedMesh
+pub mod RenumberedData
+pub mod Calls

@@ -1,0 +1,75 @@
+-- Renumbering: "by any permutation, which holds the new id at each old one, moves positions, lists and data and maps the entries, keeping each list's order" (document 01). Definitions only.
+use Prim.Native.Nat.{ℕ, _*_, max}
+use mathlib.Core.Bool.{Bool, _||_, cond}
+use mathlib.Core.List.{List}
+use lib.Dec.{leb, eqb}
+use lib.ListN.{length, getD}
+use lib.Ieee.{Float, nan}
+use Rattle.sequences.specs.Range.{allBelow}
+use Rattle.sequences.specs.Starts.{concatenate, startsOf}
+use Rattle.sequences.specs.Permutation.{isPermutation, moved, movedBlocks, movedPairs, relabelled}
+use Rattle.sequences.specs.Slabs.{mapSlabs}
+use Rattle.refusal.specs.declared.Verdict.{Verdict}
+use Rattle.refusal.specs.declared.Verdict.the-variants.{Passed, Refused}
+use Rattle.refusal.specs.Refusal.{refusal, row, then, answer}
+use Rattle.mesh.specs.Mesh.{Mesh, count, neighbours}
+use Rattle.mesh.specs.Rows.{adjacencyRows}
+
+-- A call's arguments beside mesh and data: the slice offered as permutation, the entries a vertex, and the lengths of the scratch slices lent.
+pub record Call : Type 0 where
+  pub permutation : List ℕ
+  pub entriesPerVertex : ℕ
+  pub scratchLengths : List ℕ
+
+-- Row 7 refuses "entries a vertex neither 1 nor the count".
+unfoldable pub entriesPerVertexFit : ℕ → ℕ → Bool
+entriesPerVertexFit n each = eqb each 1 || eqb each n
+
+-- Row 8: "each scratch slice needs as many places as the longest list that the call takes or fills". Of mesh and data that list has so many:
+unfoldable pub longestLength : Mesh → List Float → ℕ
+longestLength m values = max (max (length (m .positions)) (length (m .starts))) (max (length (m .entries)) (length values))
+
+unfoldable pub scratchFits : ℕ → List ℕ → Bool
+scratchFits places scratchLengths = allBelow (λ i. leb places (getD scratchLengths i 0)) (length scratchLengths)
+
+-- Rows 6 to 8 of a call on n vertices, with the length of the longest list of mesh and data. Row 6 refuses "wrong length, or not a permutation of the ids".
+unfoldable pub callRows : ℕ → ℕ → Call → Verdict
+callRows n longest call =
+    row (isPermutation n (call .permutation)) (refusal 6)
+    (row (entriesPerVertexFit n (call .entriesPerVertex)) (refusal 7)
+    (row (scratchFits (max longest (length (call .permutation))) (call .scratchLengths)) (refusal 8) Passed))
+
+-- Positions are blocks of three. The list of a new id is that of its old one, in its order, each entry taken through the permutation.
+unfoldable pub renumberedMesh : List ℕ → Mesh → Mesh
+renumberedMesh permutation m = record {
+  positions = movedBlocks 3 permutation (m .positions) nan;
+  starts = startsOf (count m) (relabelled permutation (neighbours m));
+  entries = concatenate (count m) (relabelled permutation (neighbours m));
+}
+
+-- "Data has 1 or n (the count) entries a vertex; in the second form both indices move." One slab, of n or n·n places:
+unfoldable pub renumberedSlab : List ℕ → ℕ → List Float → List Float
+renumberedSlab permutation each slab = cond (eqb each 1) (moved permutation slab nan) (movedPairs permutation slab nan)
+
+-- Each whole slab; "A tail shorter than a slab (n, or n·n) is untouched".
+unfoldable pub renumberedData : ℕ → List ℕ → ℕ → List Float → List Float
+renumberedData n permutation each values = mapSlabs (n * each) (renumberedSlab permutation each) values nan
+
+-- The whole outcome of a call: its answer, and mesh and data at exit. Scratch is free after an accepted call, and as it was after a refused one.
+pub record RenumberOutcome : Type 0 where
+  pub verdict : Verdict
+  pub mesh : Mesh
+  pub values : List Float
+
+-- Rows 2, 3, 4, 6, 7, 8.
+unfoldable pub renumberRows : Mesh → List Float → Call → Verdict
+renumberRows m values call = then (adjacencyRows m) (callRows (count m) (longestLength m values) call)
+
+unfoldable pub renumber : Mesh → List Float → Call → RenumberOutcome
+renumber m values call =
+    answer (renumberRows m values call) (λ reason. record { verdict = Refused reason; mesh = m; values = values })
+    (record {
+      verdict = Passed;
+      mesh = renumberedMesh (call .permutation) m;
+      values = renumberedData (count m) (call .permutation) (call .entriesPerVertex) values;
+    })
