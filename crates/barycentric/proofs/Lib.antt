@@ -1,2 +1,3 @@
 pub mod Scalars
+pub mod LessThan
 pub mod LeastWeight

@@ -1,5 +1,5 @@
 -- Ericson's scalars d1 to d6 from the differences that they are dots of. Assumes nothing.
-use mathlib.Core.Path.{_≡_, refl}
+use mathlib.Core.Path.{_≡_}
 use lib.Ieee.{Float}
 use Rattle.vector.specs.declared.Vector3.{Vector3}
 use Rattle.vector.specs.Vector.{dotProduct, vectorDifference}

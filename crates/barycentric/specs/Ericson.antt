@@ -1,6 +1,6 @@
 -- Christer Ericson, Real-Time Collision Detection (2005), pp. 141–142, ClosestPtPointTriangle: the barycentric coordinates (u, v, w) of the point of the triangle ABC that is closest to P. Definitions only.
--- Each step is rounded once (IEEE 754-2019, 4.3.1) and bears the book's name; the comments in quotes are the book's.
-use mathlib.Core.Bool.{Bool, cond, _&&_}
+-- Each step is rounded once (IEEE 754-2019, 4.3.1) and bears the book's name. A region is named by the vertex, edge or face that it belongs to.
+use mathlib.Core.Bool.{cond, _&&_}
 use lib.Ieee.{Float, binary64, ofBits, neg, add, sub, mul, div, le}
 use Rattle.fused.specs.Fused.{fusedMultiplyAdd}
 use Rattle.vector.specs.declared.Vector3.{Vector3}
@@ -30,19 +30,19 @@ regionWeights d1 d2 d3 d4 d5 d6 =
     let denom = div binary64 oneF (add binary64 (add binary64 va vb) vc) in
     let v = mul binary64 vb denom in
     let w = mul binary64 vc denom in
-    -- "Check if P in vertex region outside A"
+    -- the vertex region of A
     cond (le d1 zeroF && le d2 zeroF) (weights oneF zeroF zeroF)
-    -- "Check if P in vertex region outside B"
+    -- the vertex region of B
     (cond (le zeroF d3 && le d4 d3) (weights zeroF oneF zeroF)
-    -- "Check if P in edge region of AB"
+    -- the edge region of AB
     (cond (le vc zeroF && le zeroF d1 && le d3 zeroF) (weights (sub binary64 oneF vOnAB) vOnAB zeroF)
-    -- "Check if P in vertex region outside C"
+    -- the vertex region of C
     (cond (le zeroF d6 && le d5 d6) (weights zeroF zeroF oneF)
-    -- "Check if P in edge region of AC"
+    -- the edge region of AC
     (cond (le vb zeroF && le zeroF d2 && le d6 zeroF) (weights (sub binary64 oneF wOnAC) zeroF wOnAC)
-    -- "Check if P in edge region of BC"
+    -- the edge region of BC
     (cond (le va zeroF && le zeroF (sub binary64 d4 d3) && le zeroF (sub binary64 d5 d6)) (weights zeroF (sub binary64 oneF wOnBC) wOnBC)
-    -- "P inside face region"
+    -- the face region
     (weights (sub binary64 (sub binary64 oneF v) w) v w))))))
 
 -- d1 = Dot(ab, ap), d2 = Dot(ac, ap), d3 = Dot(ab, bp), d4 = Dot(ac, bp), d5 = Dot(ab, cp), d6 = Dot(ac, cp)

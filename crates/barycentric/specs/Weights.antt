@@ -1,5 +1,5 @@
 -- Barycentric weights and the least of them. Definitions only.
-use mathlib.Core.Bool.{Bool, cond}
+use mathlib.Core.Bool.{cond}
 use lib.Ieee.{Float, lt, isNan}
 use Rattle.barycentric.specs.declared.Weights.{Weights}
 

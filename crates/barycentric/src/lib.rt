@@ -13,6 +13,7 @@ pub struct Triple {
 }
 
 // The weights of a triangle's corners, in their order.
+#[repr(C)]
 pub struct Weights {
     pub u: f64,
     pub v: f64,

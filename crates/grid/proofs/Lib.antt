@@ -1,3 +1,9 @@
+pub mod CubeFace
+pub mod SideBound
+pub mod Placing
+pub mod Passes
+pub mod TrianglePass
+pub mod Builder
 pub mod Cells
 pub mod Triangles
 pub mod Grid

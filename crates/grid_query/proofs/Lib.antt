@@ -1,3 +1,13 @@
+pub mod Answers
+pub mod Clamp
+pub mod CellBound
+pub mod IdsBelow
+pub mod Parts
+pub mod GridRows
+pub mod Scan
+pub mod Triples
+pub mod VertexFound
+pub mod TriangleLocated
 pub mod Distance
 pub mod NearestCandidate
 pub mod Cell

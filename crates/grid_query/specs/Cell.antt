@@ -20,6 +20,11 @@ use Rattle.grid.specs.CubeFace.{zeroFloat, faceProjection, dominantFace}
 use Rattle.grid.specs.Cells.{whole, sideOf, cellCount, acrossCells}
 use Rattle.grid.specs.Grid.{Grid}
 
+-- A side and four lent slices as a grid.
+abbrev pub lentGrid : ℕ → List ℕ → List ℕ → List ℕ → List ℕ → Grid
+lentGrid side cellStarts cellIds triangleStarts triples =
+    record { side = side; cellStarts = cellStarts; cellIds = cellIds; triangleStarts = triangleStarts; triples = triples }
+
 -- A query "clamps to 0..g − 1 before it converts".
 unfoldable pub clampedCell : ℕ → Float → ℕ
 clampedCell g x = toUnsigned 64 (cond (lt x zeroFloat) zeroFloat (cond (lt (whole (g - 1)) x) (whole (g - 1)) x))
@@ -67,13 +72,20 @@ inTriples (a ∷ b ∷ c ∷ rest) = (a ∷ b ∷ c ∷ []) ∷ inTriples rest
 unfoldable pub triplesAt : Grid → ℕ → List (List ℕ)
 triplesAt grid v = inTriples (blockPart 3 (grid .triangleStarts) (grid .triples) v)
 
--- Rows 2, 3, 9, then in the direction's cell 3, 11, 4.
-unfoldable pub cellRows : Grid → List Float → Vector3 → Verdict
-cellRows grid positions direction =
-    let cell = cellOfQuery grid direction in
+-- Rows 2, 3, 9, which come before the cell is read, and then the next ones.
+abbrev pub gridRows : Grid → List Float → Vector3 → Verdict → Verdict
+gridRows grid positions direction next =
     row (gridFits grid positions) (refusal 2)
     (row (startsCounted grid positions) (refusal 3)
-    (row (admissible direction) (refusal 9)
-    (row (partFits (grid .cellStarts) (length (grid .cellIds)) cell) (refusal 3)
+    (row (admissible direction) (refusal 9) next))
+
+-- "then in its cell" rows 3, 11, 4.
+abbrev pub candidateRows : Grid → List Float → ℕ → Verdict
+candidateRows grid positions cell =
+    row (partFits (grid .cellStarts) (length (grid .cellIds)) cell) (refusal 3)
     (row (ltb 0 (length (candidates grid cell))) (refusal 11)
-    (row (idsBelow (vertexCount positions) (candidates grid cell)) (refusal 4) Passed)))))
+    (row (idsBelow (vertexCount positions) (candidates grid cell)) (refusal 4) Passed))
+
+-- Both in their order, at the cell of the direction.
+unfoldable pub cellRows : Grid → List Float → Vector3 → Verdict
+cellRows grid positions direction = gridRows grid positions direction (candidateRows grid positions (cellOfQuery grid direction))

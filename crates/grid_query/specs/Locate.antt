@@ -59,10 +59,13 @@ triangleRows grid positions v =
     row (triplesFit grid v) (refusal 3)
     (row (idsBelow (vertexCount positions) (blockPart 3 (grid .triangleStarts) (grid .triples) v)) (refusal 4) Passed)
 
--- The whole outcome of a location. Nothing is lent for writing. Row 12 refuses where "no least above minus infinity" is found.
+-- The triangle kept at the vertex v, behind the rows that speak of it. Row 12 refuses where "no least above minus infinity" is found.
+unfoldable pub locatedAt : Grid → List Float → Vector3 → ℕ → Located
+locatedAt grid positions direction v =
+    answer (triangleRows grid positions v) Refused (keptOf positions direction (Refused (refusal 12)) (triplesAt grid v))
+
+-- The whole outcome of a location. Nothing is lent for writing.
 unfoldable pub locate : Grid → List Float → Vector3 → Located
 locate grid positions direction =
     let nearest = nearestOf positions (normalized direction) (candidates grid (cellOfQuery grid direction)) in
-    answer (cellRows grid positions direction) Refused
-    (answer (triangleRows grid positions nearest) Refused
-    (keptOf positions (normalized direction) (Refused (refusal 12)) (triplesAt grid nearest)))
+    answer (cellRows grid positions direction) Refused (locatedAt grid positions (normalized direction) nearest)

@@ -12,7 +12,7 @@ use Rattle.mesh.specs.Mesh.{positionOf}
 use Rattle.grid.specs.Grid.{Grid}
 use Rattle.grid_query.specs.declared.Nearest.{Nearest}
 use Rattle.grid_query.specs.declared.Nearest.the-variants.{Refused, Found}
-use Rattle.grid_query.specs.Cell.{cellOfQuery, candidates, cellRows}
+use Rattle.grid_query.specs.Cell.{cellOfQuery, candidates, candidateRows, cellRows}
 
 -- Direction minus vertex, each difference squared once, summed from the left.
 unfoldable pub squaredDistance : List Float → Vector3 → ℕ → Float
@@ -28,6 +28,10 @@ unfoldable pub nearestIn : List Float → Vector3 → List ℕ → Nearest
 nearestIn positions direction ids =
     let id = nearestOf positions direction ids in
     Found id (squaredDistance positions direction id) (length ids)
+
+-- The same behind the rows that speak of the cell.
+unfoldable pub nearestOfCell : Grid → List Float → Vector3 → ℕ → Nearest
+nearestOfCell grid positions direction cell = answer (candidateRows grid positions cell) Refused (nearestIn positions direction (candidates grid cell))
 
 -- The whole outcome of a nearest query. Nothing is lent for writing.
 unfoldable pub nearestVertex : Grid → List Float → Vector3 → Nearest

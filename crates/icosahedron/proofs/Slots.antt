@@ -1,6 +1,6 @@
 -- Laws of the slots of a master face: each lattice point's slot lies below the number of slots. Assumes nothing.
-use mathlib.Core.Path.{_≡_, refl, sym, ap, _∙_, subst}
-use Prim.Native.Nat.{ℕ, zero, suc, _+_, _-_, _*_, _/_, _≤_, _<_}
+use mathlib.Core.Path.{_≡_, refl, ap, _∙_, subst}
+use Prim.Native.Nat.{ℕ, zero, suc, _+_, _-_, _*_, _≤_, _<_}
 use native.Mathlib.Nat.{add-mul, mul-add, mul-comm, mul-one, mul-sub, suc-mul, mul-le-mul, mul-le-mul-left}
 use native.Mathlib.Numerals.{towards-suc}
 use native.Mathlib.Omega.{arith}

@@ -11,3 +11,9 @@ pub mod Neighbours
 pub mod Moves
 pub mod ListLengths
 pub mod Rows
+pub mod Naming
+pub mod VertexFill
+pub mod Steps
+pub mod Insertion
+pub mod Gather
+pub mod Room

@@ -140,6 +140,9 @@ pub record LatticeSlices : Type 0 where
   pub entries : List ℕ
   pub ids : List ℕ
 
+abbrev pub slicesOf : List Float → List ℕ → List ℕ → List ℕ → LatticeSlices
+slicesOf positions starts entries ids = record { positions = positions; starts = starts; entries = entries; ids = ids }
+
 -- Row 8 refuses "any slice too short".
 unfoldable pub slicesFit : ℕ → LatticeSlices → Bool
 slicesFit n lent =
@@ -150,6 +153,9 @@ slicesFit n lent =
 pub record LatticeOutcome : Type 0 where
   pub verdict : Verdict
   pub slices : LatticeSlices
+
+abbrev pub outcome : Verdict → List Float → List ℕ → List ℕ → List ℕ → LatticeOutcome
+outcome verdict positions starts entries ids = record { verdict = verdict; slices = slicesOf positions starts entries ids }
 
 -- "surplus is untouched"
 unfoldable pub filled : ℕ → LatticeSlices → LatticeSlices

@@ -1,3 +1,5 @@
 pub mod Lattice
 pub mod Appearances
 pub mod Shared
+pub mod Naming
+pub mod Gathering

@@ -1,5 +1,5 @@
 -- Rows 2 to 5 of document 01's table: what each asks of a mesh, and the chains that operations begin with. Definitions only.
-use Prim.Native.Nat.{ℕ, suc, _+_, _-_, _%_}
+use Prim.Native.Nat.{ℕ, suc, _-_, _%_}
 use mathlib.Core.Bool.{Bool, _&&_}
 use mathlib.Core.List.{List}
 use lib.Dec.{leb, ltb, eqb}

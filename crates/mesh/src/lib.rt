@@ -11,6 +11,10 @@ use refusal::Refusal;
 use refusal::Verdict;
 use vector::Vector3;
 
+const GREATEST_COUNT: usize = 65536;
+
+const LONGEST_LIST: u32 = 32;
+
 // How many vertices the positions are for.
 pub fn vertex_count(positions: &[f64]) -> usize
     ensures { λ r. ⌜ r ≡ vertexCount (now (positions .entry)) ⌝ }
@@ -31,11 +35,11 @@ pub fn position(positions: &[f64], vertex: usize) -> Vector3
 }
 
 // Row 2.
-fn positions_fit(positions: &[f64]) -> bool
+pub fn positions_fit(positions: &[f64]) -> bool
     ensures { λ r. ⌜ r ≡ positionsFit (now (positions .entry)) ⌝ }
 {
     let count = positions.len() / 3;
-    (positions.len() % 3 == 0) & ((1 <= count) & (count <= 65536))
+    (positions.len() % 3 == 0) & ((1 <= count) & (count <= GREATEST_COUNT))
 }
 
 // Row 3: the starts have their length.
@@ -78,7 +82,7 @@ fn lists_limited(positions: &[f64], starts: &[u32]) -> bool
     let count = positions.len() / 3;
     let mut vertex = 0;
     while vertex < count {
-        if starts[vertex + 1] - starts[vertex] > 32 {
+        if starts[vertex + 1] - starts[vertex] > LONGEST_LIST {
             return false;
         }
         vertex += 1;
@@ -87,7 +91,7 @@ fn lists_limited(positions: &[f64], starts: &[u32]) -> bool
 }
 
 // Row 4.
-fn entries_below(positions: &[f64], entries: &[u16]) -> bool
+pub fn entries_below(positions: &[f64], entries: &[u16]) -> bool
     ensures { λ r. ⌜ r ≡ entriesBelow (meshOf (now (positions .entry)) [] (now (entries .entry))) ⌝ }
 {
     let count = positions.len() / 3;
@@ -168,7 +172,7 @@ pub fn is_permutation(permutation: &[u32], count: usize) -> bool
     if permutation.len() != count {
         return false;
     }
-    let mut marked: [u8; 65536] = [0; 65536];
+    let mut marked: [u8; GREATEST_COUNT] = [0; GREATEST_COUNT];
     let mut vertex = 0;
     while vertex < count {
         let id = permutation[vertex] as usize;

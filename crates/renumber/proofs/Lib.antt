@@ -1,3 +1,7 @@
-pub mod RenumberedMesh
 pub mod RenumberedData
+pub mod Blocks
+pub mod Forms
+pub mod Lists
+pub mod Accepted
+pub mod RenumberedMesh
 pub mod Calls

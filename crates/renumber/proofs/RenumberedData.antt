@@ -31,11 +31,11 @@ fit-paired n = last (eqb n 1) (eq-eqb n n refl)
     last false e = e
 
 -- Row 7 lets two forms pass, one entry a vertex and one a pair. With one vertex they agree, and the first is meant.
-data Form (n each : ℕ) : Type 0 where
+pub data Form (n each : ℕ) : Type 0 where
   single : eqb each 1 ≡ true → each ≡ 1 → Form n each
   paired : eqb each 1 ≡ false → each ≡ n → Form n each
 
-form-of : (n each : ℕ) → entriesPerVertexFit n each ≡ true → Form n each
+pub form-of : (n each : ℕ) → entriesPerVertexFit n each ≡ true → Form n each
 unfolding entriesPerVertexFit
 form-of n each fit = go (eqb each 1) refl fit
   where
@@ -51,11 +51,11 @@ fit-some n each some fit = go (form-of n each fit)
     go (paired t e) = rw e (mul-pos some some)
 
 -- ---- one slab
-slab-single : (q : List ℕ) (each : ℕ) (slab : List Float) → eqb each 1 ≡ true → renumberedSlab q each slab ≡ moved q slab nan
+pub slab-single : (q : List ℕ) (each : ℕ) (slab : List Float) → eqb each 1 ≡ true → renumberedSlab q each slab ≡ moved q slab nan
 unfolding renumberedSlab
 slab-single q each slab e = rw e refl
 
-slab-paired : (q : List ℕ) (each : ℕ) (slab : List Float) → eqb each 1 ≡ false → renumberedSlab q each slab ≡ movedPairs q slab nan
+pub slab-paired : (q : List ℕ) (each : ℕ) (slab : List Float) → eqb each 1 ≡ false → renumberedSlab q each slab ≡ movedPairs q slab nan
 unfolding renumberedSlab
 slab-paired q each slab e = rw e refl
 

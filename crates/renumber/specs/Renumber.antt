@@ -1,5 +1,6 @@
 -- Renumbering: "by any permutation, which holds the new id at each old one, moves positions, lists and data and maps the entries, keeping each list's order" (document 01). Definitions only.
 use Prim.Native.Nat.{ℕ, _*_, max}
+use mathlib.Core.Path.{_≡_}
 use mathlib.Core.Bool.{Bool, _||_, cond}
 use mathlib.Core.List.{List}
 use lib.Dec.{leb, eqb}
@@ -9,6 +10,7 @@ use Rattle.sequences.specs.Range.{allBelow}
 use Rattle.sequences.specs.Starts.{concatenate, startsOf}
 use Rattle.sequences.specs.Permutation.{isPermutation, moved, movedBlocks, movedPairs, relabelled}
 use Rattle.sequences.specs.Slabs.{mapSlabs}
+use Rattle.refusal.specs.declared.Refusal.{Refusal}
 use Rattle.refusal.specs.declared.Verdict.{Verdict}
 use Rattle.refusal.specs.declared.Verdict.the-variants.{Passed, Refused}
 use Rattle.refusal.specs.Refusal.{refusal, row, then, answer}
@@ -73,3 +75,27 @@ renumber m values call =
       mesh = renumberedMesh (call .permutation) m;
       values = renumberedData (count m) (call .permutation) (call .entriesPerVertex) values;
     })
+
+-- ---- for contracts
+abbrev pub callOf : List ℕ → ℕ → List ℕ → Call
+callOf permutation each scratchLengths = record { permutation = permutation; entriesPerVertex = each; scratchLengths = scratchLengths }
+
+-- An answer, with mesh and data at exit, as an outcome.
+abbrev pub outcomeOf : Verdict → Mesh → List Float → RenumberOutcome
+outcomeOf verdict mesh values = record { verdict = verdict; mesh = mesh; values = values }
+
+-- What the five scratch slices hold.
+pub record Scratch : Type 0 where
+  pub sources : List ℕ
+  pub oldStarts : List ℕ
+  pub oldEntries : List ℕ
+  pub done : List ℕ
+  pub held : List Float
+
+abbrev pub scratchOf : List ℕ → List ℕ → List ℕ → List ℕ → List Float → Scratch
+scratchOf sources oldStarts oldEntries done held =
+    record { sources = sources; oldStarts = oldStarts; oldEntries = oldEntries; done = done; held = held }
+
+-- A refused call leaves scratch as it was.
+abbrev pub KeptWhereRefused : Verdict → Scratch → Scratch → Type 0
+KeptWhereRefused verdict entry exit = (reason : Refusal) → verdict ≡ Refused reason → exit ≡ entry

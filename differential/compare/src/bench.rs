@@ -1,9 +1,11 @@
 //! Nanoseconds a call on both sides, from the same inputs in the same run.
 
 use crate::helpers::place;
+use crate::meshes::{Flat, Lattice, Lists};
 use crate::patterns::Random;
+use crate::queries::Slices;
 use icotable_oracle as rust;
-use koshirga::Vector3;
+use koshirga::{GridMut, MeshMut, Scratch, Vector3};
 use std::hint::black_box;
 use std::time::Instant;
 
@@ -12,10 +14,14 @@ const CALLS: usize = 1024;
 /// Rounds, whose median is printed. Each has new inputs, so that no branch is learnt by heart, and
 /// both sides take their turn in it.
 const ROUNDS: usize = 1001;
+/// Rounds of the calls that take a whole mesh.
+const MESH_ROUNDS: usize = 31;
 
 /// Prints a line for each function.
 pub fn run() {
-    println!("function    Koshirga    Rust  (nanoseconds a call, medians of {ROUNDS} rounds)");
+    println!(
+        "function          Koshirga    Rust  (nanoseconds a call, medians of {ROUNDS} rounds)"
+    );
     print_line(
         "mul_add",
         |random| [random.unit(), random.unit(), random.unit()],
@@ -34,6 +40,151 @@ pub fn run() {
         |(v, _)| v.normalize(),
         |(_, v)| v.normalize(),
     );
+    for frequency in [20, 80] {
+        queries(frequency);
+    }
+    println!("function          Koshirga    Rust  (microseconds a call, medians of {MESH_ROUNDS} rounds)");
+    for frequency in [20, 80] {
+        builders(frequency);
+    }
+    meshes(80);
+}
+
+/// Both locators and the nearest query of a grid.
+fn queries(frequency: usize) {
+    let lattice = Lattice::new(frequency);
+    let analytic = rust::AnalyticLattice::new(frequency);
+    let ours = koshirga::AnalyticLattice {
+        frequency: frequency as u32,
+        ids: &lattice.ids,
+    };
+    print_line(
+        &format!("analytic {frequency}"),
+        vectors,
+        |&(v, _)| ours.locate(v),
+        |(_, v)| analytic.locate(v),
+    );
+    let grid = rust::FaceGrid::new(&lattice.lists.vertices, &lattice.lists.neighbors);
+    let slices = Slices::new(&lattice.lists, &grid);
+    let ours = slices.as_grid();
+    print_line(
+        &format!("grid nearest {frequency}"),
+        vectors,
+        |&(v, _)| ours.find_nearest_vertex(v),
+        |(_, v)| grid.find_nearest_vertex(v),
+    );
+    print_line(
+        &format!("grid locate {frequency}"),
+        vectors,
+        |&(v, _)| ours.locate(v),
+        |(_, v)| grid.locate(v),
+    );
+}
+
+/// The lattice, and the grid of it. The Rust allocates what it returns; Koshirga fills lent slices.
+fn builders(frequency: usize) {
+    let lists = Lattice::new(frequency).lists;
+    let flat = lists.flat();
+    let count = flat.count();
+    let mut mesh = flat.clone();
+    let mut ids = vec![0; 10 * (frequency + 1) * (frequency + 2)];
+    let mut cell_starts = vec![0; 6 * 126 * 126 + 1];
+    let mut cell_ids = vec![0; 27 * count];
+    let mut triangle_starts = vec![0; count + 1];
+    let mut triples = vec![0; 3 * flat.entries.len()];
+    let mut times = [const { Vec::new() }; 4];
+    for _ in 0..MESH_ROUNDS {
+        times[0].push(once(|| {
+            let mesh = MeshMut {
+                positions: &mut mesh.positions,
+                starts: &mut mesh.starts,
+                entries: &mut mesh.entries,
+            };
+            koshirga::lattice_geometry(frequency as u32, mesh, &mut ids)
+        }));
+        times[1].push(once(|| rust::lattice_geometry(frequency)));
+        times[2].push(once(|| {
+            let grid = GridMut {
+                cell_starts: &mut cell_starts,
+                cell_ids: &mut cell_ids,
+                triangle_starts: &mut triangle_starts,
+                triples: &mut triples,
+            };
+            koshirga::build_grid(flat.as_mesh(), grid)
+        }));
+        times[3].push(once(|| {
+            rust::FaceGrid::new(&lists.vertices, &lists.neighbors)
+        }));
+    }
+    let [lattice, rust_lattice, grid, rust_grid] = times.map(median);
+    print_times(&format!("lattice {frequency}"), lattice, rust_lattice);
+    print_times(&format!("grid {frequency}"), grid, rust_grid);
+}
+
+/// The walk, and the renumbering by its order with one value a vertex. The Rust's slices and
+/// scratch are its own, allocated in the call.
+fn meshes(frequency: usize) {
+    let lists = Lattice::new(frequency).lists;
+    let flat = lists.flat();
+    let count = flat.count();
+    let (mut order, mut queue) = (vec![0; count], vec![0; count]);
+    let mut times = [const { Vec::new() }; 4];
+    for _ in 0..MESH_ROUNDS {
+        times[0].push(once(|| {
+            koshirga::walk(flat.as_mesh(), &mut order, &mut queue)
+        }));
+        let mut permutation = Vec::new();
+        times[1].push(once(|| {
+            permutation = rust::bfs_vertex_permutation(&lists.neighbors)
+        }));
+        times[2].push(renumbering(&flat, &order));
+        times[3].push(rust_renumbering(&lists, &permutation));
+    }
+    let [walk, rust_walk, renumber, rust_renumber] = times.map(median);
+    print_times(&format!("walk {frequency}"), walk, rust_walk);
+    print_times(&format!("renumber {frequency}"), renumber, rust_renumber);
+}
+
+fn renumbering(flat: &Flat, permutation: &[u32]) -> f64 {
+    let mut mesh = flat.clone();
+    let mut values = vec![1.0; flat.count()];
+    let room = flat.positions.len().max(flat.entries.len());
+    let scratch = Scratch {
+        sources: &mut vec![0; room],
+        old_starts: &mut vec![0; room],
+        old_entries: &mut vec![0; room],
+        done: &mut vec![0; room],
+        held: &mut vec![0.0; room],
+    };
+    let mesh = MeshMut {
+        positions: &mut mesh.positions,
+        starts: &mut mesh.starts,
+        entries: &mut mesh.entries,
+    };
+    once(|| koshirga::renumber(mesh, &mut values, permutation, 1, scratch))
+}
+
+fn rust_renumbering(lists: &Lists, permutation: &[usize]) -> f64 {
+    let mut lists = lists.clone();
+    let count = lists.vertices.len();
+    let mut values = vec![1.0; count];
+    once(|| {
+        rust::apply_vertex_permutation(
+            permutation,
+            &mut lists.vertices,
+            &mut lists.neighbors,
+            &mut values,
+            count,
+            1,
+        )
+    })
+}
+
+/// Microseconds of one call.
+fn once<R>(call: impl FnOnce() -> R) -> f64 {
+    let start = Instant::now();
+    black_box(call());
+    start.elapsed().as_nanos() as f64 / 1000.0
 }
 
 /// From 0 to 1.
@@ -66,7 +217,11 @@ fn print_line<T, R, S>(
         times[1].push(time(&inputs, &rust));
     }
     let [ours, rust] = times.map(median);
-    println!("{name:<10}  {ours:>8.1}  {rust:>6.1}");
+    print_times(name, ours, rust);
+}
+
+fn print_times(name: &str, ours: f64, rust: f64) {
+    println!("{name:<16}  {ours:>8.1}  {rust:>6.1}");
 }
 
 /// Nanoseconds a call.

@@ -59,6 +59,27 @@ impl Tally {
     }
 }
 
+/// How often each row was the expected refusal.
+#[derive(Default)]
+pub struct Rows(BTreeMap<u32, u64>);
+
+impl Rows {
+    pub fn count(&mut self, row: Option<u32>) {
+        if let Some(number) = row {
+            *self.0.entry(number).or_default() += 1;
+        }
+    }
+
+    /// A row that no input reached is a difference: then the inputs are too tame.
+    pub fn all_reached(&self, tally: &mut Tally, rows: &[u32]) {
+        for row in rows {
+            tally.compare(self.0.contains_key(row), || {
+                format!("no input is refused by row {row}")
+            });
+        }
+    }
+}
+
 /// Whether two results have the same bits. NaN bits are free.
 #[inline]
 pub fn same(x: f64, y: f64) -> bool {

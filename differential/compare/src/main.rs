@@ -4,22 +4,40 @@
 //! `cases` writes the inputs that MPFR judges too, `bench` times both sides.
 //! Exit status: 0 no difference, 1 some, 2 an unknown topic or a Rust side that can't be the judge.
 
+mod analytic;
 mod arithmetic;
 mod bench;
 mod check;
+mod directions;
+mod grids;
 mod helpers;
+mod invariance;
+mod lattices;
+mod meshes;
 mod operands;
 mod patterns;
+mod queries;
+mod renumber;
 mod vectors;
+mod walk;
+mod weights;
 
 use check::Topic;
 use std::io::{self, BufWriter, Write};
 use std::process::ExitCode;
 
-const TOPICS: [Topic; 3] = [
+const TOPICS: [Topic; 11] = [
     Topic::new("helpers", helpers::checks),
     Topic::new("arithmetic", arithmetic::checks),
     Topic::new("vectors", vectors::checks),
+    Topic::new("weights", weights::checks),
+    Topic::new("analytic", analytic::checks),
+    Topic::new("walk", walk::checks),
+    Topic::new("renumber", renumber::checks),
+    Topic::new("lattices", lattices::checks),
+    Topic::new("grids", grids::checks),
+    Topic::new("queries", queries::checks),
+    Topic::new("invariance", invariance::checks),
 ];
 
 fn main() -> ExitCode {

@@ -1,6 +1,7 @@
 //! Vector operations beside the oracle's, and row 9 beside its text.
 
 use crate::check::{same, Check, Tally};
+use crate::directions::{row_9, rust_of};
 use crate::patterns::{Vectors, RANDOM};
 use icotable_oracle as rust;
 use koshirga::Vector3;
@@ -18,10 +19,6 @@ pub fn checks() -> Vec<Check> {
         Check::new("normalize", normalize),
         Check::new("direction", direction),
     ]
-}
-
-fn rust_of(v: Vector3) -> rust::Vector3 {
-    rust::Vector3::new(v.x, v.y, v.z)
 }
 
 fn compare_numbers(tally: &mut Tally, input: impl std::fmt::Debug, ours: f64, rust: f64) {
@@ -115,15 +112,6 @@ fn normalize(tally: &mut Tally) {
     each_vector(20, |v| {
         compare_vectors(tally, v, v.normalize(), rust_of(v).normalize())
     });
-}
-
-/// Document 01, row 9 as row 5: "a non-finite component or computed squared length outside
-/// 2^−40..2^40, ends allowed".
-fn row_9(v: Vector3) -> bool {
-    let components = [v.x, v.y, v.z];
-    let squared_length = rust_of(v).norm_squared();
-    let ends = 2f64.powi(-40)..=2f64.powi(40);
-    components.iter().any(|component| !component.is_finite()) || !ends.contains(&squared_length)
 }
 
 fn direction(tally: &mut Tally) {

@@ -1,6 +1,5 @@
 -- `barycentric::lesser_weight` meets its contract. Assumes nothing.
-use mathlib.Core.Path.{_≡_, refl, ap, _∙_}
-use lib.Ieee.{nan, isNan}
+use lib.Ieee.{isNan}
 use Rattle.binary64.proofs.Nan.{is-nan, not-nan}
 use Rattle.barycentric.specs.Weights.{lesser}
 use Rattle.barycentric.proofs.lesser_weight.Statement.{statement}

@@ -44,24 +44,24 @@ unfolding entriesBelow
 below c = sym (c .before .entries-below .ensures) ∙ not-false _ (c .if6 .left)
 
 -- and where it did not
-failed-2 : (c : tie.Then2) → startsCounted (lent (start-of (c .before .before .before))) ≡ false
+not-counted : (c : tie.Then2) → startsCounted (lent (start-of (c .before .before .before))) ≡ false
 unfolding startsCounted
-failed-2 c = sym (c .before .starts-counted .ensures) ∙ not-true _ (c .if2 .taken)
+not-counted c = sym (c .before .starts-counted .ensures) ∙ not-true _ (c .if2 .taken)
 
-failed-3 : (c : tie.Then3) → startsSpan (lent (start-of (c .before .before .before .before .before))) ≡ false
-failed-3 c = sym (c .before .starts-span .ensures) ∙ not-true _ (c .if3 .taken)
+not-spanning : (c : tie.Then3) → startsSpan (lent (start-of (c .before .before .before .before .before))) ≡ false
+not-spanning c = sym (c .before .starts-span .ensures) ∙ not-true _ (c .if3 .taken)
 
-failed-4 : (c : tie.Then4) → startsAscend (lent (start-of (c .before .before .before .before .before .before .before))) ≡ false
+not-ascending : (c : tie.Then4) → startsAscend (lent (start-of (c .before .before .before .before .before .before .before))) ≡ false
 unfolding startsAscend
-failed-4 c = sym (c .before .starts-ascend .ensures) ∙ not-true _ (c .if4 .taken)
+not-ascending c = sym (c .before .starts-ascend .ensures) ∙ not-true _ (c .if4 .taken)
 
-failed-5 : (c : tie.Then5) → listsLimited (lent (start-of (c .before .before .before .before .before .before .before .before .before))) ≡ false
+not-limited : (c : tie.Then5) → listsLimited (lent (start-of (c .before .before .before .before .before .before .before .before .before))) ≡ false
 unfolding listsLimited
-failed-5 c = sym (c .before .lists-limited .ensures) ∙ not-true _ (c .if5 .taken)
+not-limited c = sym (c .before .lists-limited .ensures) ∙ not-true _ (c .if5 .taken)
 
-failed-6 : (c : tie.Then6) → entriesBelow (lent (start-of (c .before .before .before .before .before .before .before .before .before .before .before))) ≡ false
+not-below : (c : tie.Then6) → entriesBelow (lent (start-of (c .before .before .before .before .before .before .before .before .before .before .before))) ≡ false
 unfolding entriesBelow
-failed-6 c = sym (c .before .entries-below .ensures) ∙ not-true _ (c .if6 .taken)
+not-below c = sym (c .before .entries-below .ensures) ∙ not-true _ (c .if6 .taken)
 
 positions-fit-requires : tie.Need-positions-fit-requires
 positions-fit-requires c κs = search needs
@@ -81,7 +81,7 @@ new-requires-2 c κs = search needs
 
 returns-2 : tie.Need-returns-2
 unfolding adjacencyRows
-returns-2 c = rw (fits (c .before .before .before), failed-2 (c .before), c .new2 .ensures)
+returns-2 c = rw (fits (c .before .before .before), not-counted (c .before), c .new2 .ensures)
 
 starts-span-requires : tie.Need-starts-span-requires
 starts-span-requires c κs = starts-length c
@@ -91,7 +91,7 @@ new-requires-3 c κs = search needs
 
 returns-3 : tie.Need-returns-3
 unfolding adjacencyRows
-returns-3 c = rw (fits (c .before .before .before .before .before), counted (c .before .before .before), failed-3 (c .before), c .new3 .ensures)
+returns-3 c = rw (fits (c .before .before .before .before .before), counted (c .before .before .before), not-spanning (c .before), c .new3 .ensures)
 
 starts-ascend-requires : tie.Need-starts-ascend-requires
 starts-ascend-requires c κs = starts-length (c .before .before)
@@ -101,7 +101,7 @@ new-requires-4 c κs = search needs
 
 returns-4 : tie.Need-returns-4
 unfolding adjacencyRows
-returns-4 c = rw (fits (c .before .before .before .before .before .before .before), counted (c .before .before .before .before .before), spans (c .before .before .before), failed-4 (c .before), c .new4 .ensures)
+returns-4 c = rw (fits (c .before .before .before .before .before .before .before), counted (c .before .before .before .before .before), spans (c .before .before .before), not-ascending (c .before), c .new4 .ensures)
 
 lists-limited-requires : tie.Need-lists-limited-requires
 unfolding startsAscend
@@ -112,7 +112,7 @@ new-requires-5 c κs = search needs
 
 returns-5 : tie.Need-returns-5
 unfolding adjacencyRows
-returns-5 c = rw (fits (c .before .before .before .before .before .before .before .before .before), counted (c .before .before .before .before .before .before .before), spans (c .before .before .before .before .before), ascends (c .before .before .before), failed-5 (c .before), c .new5 .ensures)
+returns-5 c = rw (fits (c .before .before .before .before .before .before .before .before .before), counted (c .before .before .before .before .before .before .before), spans (c .before .before .before .before .before), ascends (c .before .before .before), not-limited (c .before), c .new5 .ensures)
 
 entries-below-requires : tie.Need-entries-below-requires
 entries-below-requires c κs = search needs
@@ -122,7 +122,7 @@ new-requires-6 c κs = search needs
 
 returns-6 : tie.Need-returns-6
 unfolding adjacencyRows
-returns-6 c = rw (fits (c .before .before .before .before .before .before .before .before .before .before .before), counted (c .before .before .before .before .before .before .before .before .before), spans (c .before .before .before .before .before .before .before), ascends (c .before .before .before .before .before), limited (c .before .before .before), failed-6 (c .before), c .new6 .ensures)
+returns-6 c = rw (fits (c .before .before .before .before .before .before .before .before .before .before .before), counted (c .before .before .before .before .before .before .before .before .before), spans (c .before .before .before .before .before .before .before), ascends (c .before .before .before .before .before), limited (c .before .before .before), not-below (c .before), c .new6 .ensures)
 
 returns-7 : tie.Need-returns-7
 unfolding adjacencyRows

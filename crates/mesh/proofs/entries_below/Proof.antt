@@ -1,6 +1,6 @@
 -- `mesh::entries_below` meets its contract: the entries passed are ids. Assumes nothing.
 use borrow.Author.Needs.{needs}
-use Prim.Native.Nat.{ℕ, _-_, _≤_, _<_, _/_}
+use Prim.Native.Nat.{ℕ, _-_, _≤_, _/_}
 use native.Mathlib.Omega.{arith}
 use mathlib.Core.Path.{_≡_, refl, sym, ap, _∙_}
 use mathlib.Core.Bool.{Bool, true}

@@ -1,8 +1,8 @@
 -- `mesh::is_permutation` meets its contract: the marked ids are those met. Assumes nothing.
 use borrow.Author.Needs.{needs}
-use Prim.Native.Nat.{ℕ, _-_, _≤_, _<_}
+use Prim.Native.Nat.{ℕ, _-_, _≤_}
 use native.Mathlib.Omega.{arith}
-use mathlib.Core.Path.{_≡_, refl, sym, ap, _∙_}
+use mathlib.Core.Path.{_≡_, sym}
 use lib.ListN.{length, replicate, length-set, length-replicate, getD-replicate}
 use Rattle.sequences.specs.Range.{nonzeroAt}
 use Rattle.sequences.specs.Permutation.{Marks}

@@ -1,6 +1,6 @@
 -- `mesh::positions_admissible` meets its contract: the positions passed are admissible. Assumes nothing.
 use borrow.Author.Needs.{needs}
-use Prim.Native.Nat.{ℕ, _-_, _≤_, _<_, _/_}
+use Prim.Native.Nat.{ℕ, _-_, _≤_, _/_}
 use native.Mathlib.Omega.{arith}
 use mathlib.Core.Path.{_≡_, refl, sym, ap, _∙_}
 use mathlib.Core.Bool.{Bool, true}

@@ -1,6 +1,6 @@
 -- `mesh::starts_ascend` meets its contract: no start before the vertex falls. Assumes nothing.
 use borrow.Author.Needs.{needs}
-use Prim.Native.Nat.{ℕ, suc, _-_, _≤_, _<_, _/_}
+use Prim.Native.Nat.{ℕ, suc, _-_, _≤_, _/_}
 use native.Mathlib.Omega.{arith}
 use native.Mathlib.Numerals.{add-one}
 use mathlib.Core.Path.{_≡_, refl, sym, ap, _∙_}

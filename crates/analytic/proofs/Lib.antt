@@ -1,0 +1,4 @@
+pub mod FaceMapping
+pub mod ClampedFloor
+pub mod TableIndex
+pub mod Answers

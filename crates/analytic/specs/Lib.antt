@@ -1,0 +1,3 @@
+pub mod FaceChoice
+pub mod SubTriangle
+pub mod Location

@@ -1,0 +1,72 @@
+-- The sub-triangle of a master face that holds a point, as `locate` of the source (000) finds it. Definitions only.
+use Prim.Native.Nat.{ℕ, _+_, _-_, min}
+use mathlib.Core.Bool.{cond}
+use lib.IntN.{ℤ, pos, negsuc}
+use lib.Ieee.{Float, binary64, ofBits, ofInt, add, sub, mul, lt}
+use Rattle.binary64.specs.Integral.{floorOf}
+use Rattle.binary64.specs.Convert.{toI64}
+use Rattle.vector.specs.declared.Vector3.{Vector3}
+use Rattle.icosahedron.specs.Slots.{slotOf}
+use Rattle.barycentric.specs.Weights.{weights}
+use Rattle.barycentric.specs.Ericson.{oneF}
+use Rattle.analytic.specs.declared.LatticePoint.{LatticePoint}
+use Rattle.analytic.specs.declared.SubTriangle.{SubTriangle}
+use Rattle.master_face.specs.declared.MasterFace.{MasterFace}
+use Rattle.master_face.specs.MasterFace.{projected, faceWeights}
+
+-- `.clamp(0, max)` of a signed whole number
+abbrev pub clampTo : ℕ → ℤ → ℕ
+clampTo n (pos m) = min m n
+clampTo n (negsuc m) = 0
+
+-- `(u.floor() as i64).clamp(0, max)`
+unfoldable pub clampedFloor : ℕ → Float → ℕ
+clampedFloor n u = clampTo n (toI64 (floorOf u))
+
+-- `u - i as f64`
+abbrev pub fractionOver : ℕ → Float → Float
+fractionOver i u = sub binary64 u (ofInt binary64 (pos i))
+
+-- 1.5, where up and down sub-triangles are told apart
+abbrev pub split : Float
+split = ofBits binary64 0x3ff8000000000000
+
+abbrev pub latticePoint : ℕ → ℕ → LatticePoint
+latticePoint a b = record { a = a; b = b }
+
+-- The corners `(i + 1, j), (i, j + 1), (i, j)` where `fu + fv + fw < 1.5`, with the weights fu, fv, fw; else `(i, j + 1), (i + 1, j), (i + 1, j + 1)` with 1 - fu, 1 - fv, 1 - fw.
+-- A NaN among the sums is not below 1.5.
+unfoldable pub subTriangle : (i j : ℕ) (fu fv fw : Float) → SubTriangle
+subTriangle i j fu fv fw =
+    cond (lt (add binary64 (add binary64 fu fv) fw) split)
+    (record {
+      first = latticePoint (i + 1) j;
+      second = latticePoint i (j + 1);
+      third = latticePoint i j;
+      weights = weights fu fv fw;
+    })
+    (record {
+      first = latticePoint i (j + 1);
+      second = latticePoint (i + 1) j;
+      third = latticePoint (i + 1) (j + 1);
+      weights = weights (sub binary64 oneF fu) (sub binary64 oneF fv) (sub binary64 oneF fw);
+    })
+
+-- from the coordinates u = α·n, v = β·n and w = γ·n
+unfoldable pub subTriangleAt : ℕ → (u v w : Float) → SubTriangle
+subTriangleAt n u v w =
+    let i = clampedFloor n u in
+    let j = clampedFloor n v in
+    let k = clampedFloor n w in
+    subTriangle i j (fractionOver i u) (fractionOver j v) (fractionOver k w)
+
+-- from a direction, "the direction not normalised", on its master face
+unfoldable pub subTriangleOn : ℕ → MasterFace → Vector3 → SubTriangle
+subTriangleOn n face p =
+    let nf = ofInt binary64 (pos n) in
+    let t = faceWeights face (projected face p) in
+    subTriangleAt n (mul binary64 (t .u) nf) (mul binary64 (t .v) nf) (mul binary64 (t .w) nf)
+
+-- `lookup` of the source: `a.clamp(0, max)`, `b.clamp(0, max - a)`, and the slot there. No corner is below 0.
+unfoldable pub clampedSlot : ℕ → LatticePoint → ℕ
+clampedSlot n q = let a = min (q .a) n in slotOf n a (min (q .b) (n - a))

@@ -1,0 +1,94 @@
+-- Laws of the builder: the lengths of a grid's lists are the totals that the counting passes find. Assumes nothing.
+use Prim.Native.Nat.{ℕ, zero, suc, _+_, _*_}
+use mathlib.Core.Path.{_≡_, refl, sym, ap, _∙_}
+use mathlib.Core.Bool.{true, false, _&&_}
+use mathlib.Core.List.{List, _++_, flatten}
+use lib.Dec.{leb}
+use lib.ListN.{length}
+use Rattle.sequences.specs.Tabulate.{overwrite}
+use Rattle.sequences.specs.Starts.{startOf, startsOf, concatenate}
+use Rattle.sequences.proofs.Starts.{length-concatenate, length-starts, concatenate-extensional, starts-extensional, flatten-append, flatten-even-length}
+use Rattle.refusal.specs.declared.Verdict.the-variants.{Passed}
+use Rattle.refusal.specs.Refusal.{refusal}
+use Rattle.mesh.specs.Mesh.{Mesh, count}
+use Rattle.mesh.specs.Rows.{meshRows}
+use Rattle.grid.specs.declared.Build.the-variants.{Refused, Built}
+use Rattle.grid.specs.Cells.{sideOf, cellCount}
+use Rattle.grid.specs.Triangles.{trianglesAt}
+use Rattle.grid.specs.Grid.{GridSlices, idsIn, gridOf, slicesFit, buildRows, filled, build}
+use Rattle.grid.specs.Passes.{idsBelow, idsOfAll}
+use Rattle.grid.specs.Builder.{gridSlices, buildOutcome}
+use Rattle.grid.proofs.TrianglePass.{triangle-three}
+
+flatten-rows : {A : Type 0} (n : ℕ) (f : ℕ → List (List A)) → flatten (concatenate n f) ≡ concatenate n (λ v. flatten (f v))
+unfolding concatenate flatten
+flatten-rows zero f = refl
+flatten-rows (suc n) f = flatten-append (concatenate n f) (f n) ∙ ap (λ (l : List _). l ++ flatten (f n)) (flatten-rows n f)
+
+module _ (m : Mesh) where
+  abbrev g : ℕ
+  g = sideOf (count m)
+
+  ids-are : (cell : ℕ) → idsIn m cell ≡ idsOfAll (m .positions) g cell
+  unfolding idsIn idsBelow
+  ids-are cell = refl
+
+  pub cell-starts-are : gridOf m .cellStarts ≡ startsOf (cellCount g) (idsOfAll (m .positions) g)
+  unfolding gridOf
+  cell-starts-are = starts-extensional (cellCount g) (idsIn m) (idsOfAll (m .positions) g) (λ c lt. ap length (ids-are c))
+
+  pub cell-ids-are : gridOf m .cellIds ≡ concatenate (cellCount g) (idsOfAll (m .positions) g)
+  unfolding gridOf
+  cell-ids-are = concatenate-extensional (cellCount g) (idsIn m) (idsOfAll (m .positions) g) (λ c lt. ids-are c)
+
+  pub triangle-starts-are : gridOf m .triangleStarts ≡ startsOf (count m) (trianglesAt m)
+  unfolding gridOf
+  triangle-starts-are = refl
+
+  pub triples-are : gridOf m .triples ≡ flatten (concatenate (count m) (trianglesAt m))
+  unfolding gridOf
+  triples-are = sym (flatten-rows (count m) (trianglesAt m))
+
+  cell-starts-room : length (gridOf m .cellStarts) ≡ suc (cellCount g)
+  cell-starts-room = ap length cell-starts-are ∙ length-starts (cellCount g) (idsOfAll (m .positions) g)
+
+  cell-ids-room : length (gridOf m .cellIds) ≡ startOf (idsOfAll (m .positions) g) (cellCount g)
+  cell-ids-room = ap length cell-ids-are ∙ length-concatenate (cellCount g) (idsOfAll (m .positions) g)
+
+  triangle-starts-room : length (gridOf m .triangleStarts) ≡ suc (count m)
+  triangle-starts-room = ap length triangle-starts-are ∙ length-starts (count m) (trianglesAt m)
+
+  triples-room : length (gridOf m .triples) ≡ startOf (trianglesAt m) (count m) * 3
+  triples-room =
+      ap length triples-are ∙ flatten-even-length 3 (concatenate (count m) (trianglesAt m)) (triangle-three m) ∙ ap (λ (k : ℕ). k * 3) (length-concatenate (count m) (trianglesAt m))
+
+  -- row 8 by the totals
+  pub room-is : (cells ids lists triples : List ℕ) → slicesFit (gridOf m) (gridSlices cells ids lists triples)
+      ≡ (leb (suc (cellCount g)) (length cells) && (leb (startOf (idsOfAll (m .positions) g) (cellCount g)) (length ids) && (leb (suc (count m)) (length lists) && leb (startOf (trianglesAt m) (count m) * 3) (length triples))))
+  unfolding slicesFit
+  room-is cells ids lists triples =
+      λ t. leb (cell-starts-room t) (length cells) && (leb (cell-ids-room t) (length ids) && (leb (triangle-starts-room t) (length lists) && leb (triples-room t) (length triples)))
+
+  module _ (passed : meshRows m ≡ Passed) (lent : GridSlices) where
+    pub build-refused : slicesFit (gridOf m) lent ≡ false → buildOutcome (Refused (refusal 8)) lent ≡ build m lent
+    unfolding build buildRows
+    build-refused e = rw (passed, e) refl
+
+    build-accepted : slicesFit (gridOf m) lent ≡ true → buildOutcome (Built g) (filled (gridOf m) lent) ≡ build m lent
+    unfolding build buildRows
+    build-accepted e = rw (passed, e) refl
+
+  pub build-filled : meshRows m ≡ Passed → (lent after : GridSlices) → slicesFit (gridOf m) lent ≡ true
+      → after .cellStarts ≡ overwrite (startsOf (cellCount g) (idsOfAll (m .positions) g)) (lent .cellStarts)
+      → after .cellIds ≡ overwrite (concatenate (cellCount g) (idsOfAll (m .positions) g)) (lent .cellIds)
+      → after .triangleStarts ≡ overwrite (startsOf (count m) (trianglesAt m)) (lent .triangleStarts)
+      → after .triples ≡ overwrite (flatten (concatenate (count m) (trianglesAt m))) (lent .triples)
+      → buildOutcome (Built g) after ≡ build m lent
+  unfolding filled
+  build-filled passed lent after e a b c d =
+      (λ t. buildOutcome (Built g) (gridSlices
+      ((a ∙ ap (λ (l : List ℕ). overwrite l (lent .cellStarts)) (sym cell-starts-are)) t)
+      ((b ∙ ap (λ (l : List ℕ). overwrite l (lent .cellIds)) (sym cell-ids-are)) t)
+      ((c ∙ ap (λ (l : List ℕ). overwrite l (lent .triangleStarts)) (sym triangle-starts-are)) t)
+      ((d ∙ ap (λ (l : List ℕ). overwrite l (lent .triples)) (sym triples-are)) t)))
+      ∙ build-accepted passed lent e

@@ -1,0 +1,298 @@
+-- Bounds of the side of a grid: from 2 to 126 for every count from 1 to 65,536. Assumes nothing.
+use Prim.Native.Nat.{ℕ, zero, suc, _+_, _*_, _/_, _^_, _≤_, _<_}
+use native.Mathlib.Nat.{zero-mul, one-mul, mul-one, add-mul, mul-add, mul-assoc, mul-left-comm, mul-pos, mul-comm, mul-le-mul, mul-le-mul-right, div-lt-iff-lt-mul}
+use native.Mathlib.Omega.{arith}
+use mathlib.Core.Path.{_≡_, refl, sym, ap, subst, _∙_}
+use mathlib.Core.Bool.{Bool, true, false, not}
+use lib.Dec.{T, ltb, eqb, lt→ltb, ltb→lt, eqb→eq}
+use lib.Pow.{pow-pos}
+use lib.IntN.{ℤ, pos, negsuc}
+use lib.Ieee.{Float, nan, inf, fin, binary64, low, size, up, down, lt, le, round, mul, div, ofInt, toUnsigned, fits, isNan}
+use lib.Ieee.Exact.{HasValue}
+use lib.Ieee.Back.{round-whole}
+use lib.Ieee.Order.{round-mono}
+use lib.Ieee.Fits.{up-pos, down-pos, and-l, div-fits, mul-fits}
+use lib.Ieee.Scale.{finite}
+use lib.Ieee.Positive.{num, den, den-pos, positive, positive-finite, value→cross, positive-of-value, le→cross, cross→le, between, mul-mono}
+use Rattle.binary64.specs.Integral.{ceilOf}
+use Rattle.binary64.proofs.Integral.{ceil-not-below, ceil-least}
+use Rattle.binary64.proofs.Flags.{or-left}
+use Rattle.binary64.proofs.FloatOrder.{le-of-not-lt}
+use Rattle.rounding.proofs.Sum.{round-zero}
+use Rattle.root.specs.Root.{squareRoot, scaledRoot, rootInHalves, integerRoot}
+use Rattle.root.specs.Middle.{MiddleAtMostRoot, MiddleAtLeastRoot}
+use Rattle.root.proofs.Nearest.{squareRoot-finite, squareRoot-nearest}
+use Rattle.mesh.specs.Rows.{greatestCount}
+use Rattle.grid.specs.CubeFace.{zeroFloat}
+use Rattle.grid.specs.Cells.{whole, sideFactor, sideOf}
+
+-- ---- the quotient by 6
+six-is : whole 6 ≡ fin false 3 (pos 1)
+unfolding ofInt round
+six-is = refl
+
+div-six : (w : Float) → T (positive w) → div binary64 w (fin false 3 (pos 1)) ≡ round binary64 false (num w * 1) (3 * 2 * den w)
+unfolding div
+div-six nan p = absurd p
+div-six (inf s) p = absurd p
+div-six (fin true m e) p = absurd p
+div-six (fin false m e) p = refl
+
+-- an eighth, and 10923
+lowest-is : round binary64 false 1 8 ≡ fin false 1 (negsuc 2)
+unfolding round
+lowest-is = refl
+
+highest-is : round binary64 false 10923 1 ≡ fin false 10923 (pos 0)
+unfolding round
+highest-is = refl
+
+module _ (n : ℕ) (some : 1 ≤ n) (few : n ≤ greatestCount) where
+  abbrev quotient : Float
+  quotient = div binary64 (whole n) (whole 6)
+
+  whole-value : HasValue (whole n) false n 1
+  unfolding ofInt
+  whole-value = round-whole binary64 false n (omega arith)
+
+  whole-positive : T (positive (whole n))
+  whole-positive = positive-of-value (whole n) n 1 whole-value (omega arith)
+
+  whole-cross : num (whole n) * 1 ≡ n * den (whole n)
+  whole-cross = value→cross (whole n) n 1 whole-value
+
+  quotient-is : quotient ≡ round binary64 false (num (whole n) * 1) (3 * 2 * den (whole n))
+  quotient-is = ap (λ (x : Float). div binary64 (whole n) x) six-is ∙ div-six (whole n) whole-positive
+
+  quotient-above : T (le (fin false 1 (negsuc 2)) quotient)
+  quotient-above =
+      subst (λ (z : Float). T (le (fin false 1 (negsuc 2)) z)) (sym quotient-is)
+      (subst (λ (z : Float). T (le z (round binary64 false (num (whole n) * 1) (3 * 2 * den (whole n))))) lowest-is
+      (round-mono binary64 1 8 (num (whole n) * 1) (3 * 2 * den (whole n)) (omega arith) (omega (arith, den-pos (whole n)))
+      (omega (arith, whole-cross, mul-le-mul-right (den (whole n)) some))))
+
+  quotient-below : T (le quotient (fin false 10923 (pos 0)))
+  quotient-below =
+      subst (λ (z : Float). T (le z (fin false 10923 (pos 0)))) (sym quotient-is)
+      (subst (λ (z : Float). T (le (round binary64 false (num (whole n) * 1) (3 * 2 * den (whole n))) z)) highest-is
+      (round-mono binary64 (num (whole n) * 1) (3 * 2 * den (whole n)) 10923 1 (omega (arith, den-pos (whole n))) (omega arith)
+      (omega (arith, whole-cross, mul-le-mul-right (den (whole n)) few))))
+
+  quotient-positive : T (positive quotient)
+  quotient-positive = between (fin false 1 (negsuc 2)) quotient (fin false 10923 (pos 0)) tt tt quotient-above quotient-below
+
+-- ---- the root
+round-not-below : (a b : ℕ) → 0 < b → T (le zeroFloat (round binary64 false a b))
+round-not-below a b h =
+    subst (λ (z : Float). T (le z (round binary64 false a b))) (round-zero binary64 false 1 (omega arith))
+    (round-mono binary64 0 1 a b (omega arith) h (omega (arith, zero-mul b)))
+
+scaled-not-below : (n : ℕ) → T (le zeroFloat (scaledRoot binary64 n))
+unfolding scaledRoot
+scaled-not-below n = round-not-below (rootInHalves n (integerRoot (size n) n)) (2 ^ (low binary64 + 1)) (pow-pos (low binary64 + 1))
+
+-- the root of a value above zero is not below zero
+root-not-below : (x : Float) → T (positive x) → T (le zeroFloat (squareRoot binary64 x))
+unfolding squareRoot
+root-not-below nan p = absurd p
+root-not-below (inf s) p = absurd p
+root-not-below (fin true m e) p = absurd p
+root-not-below (fin false zero e) p = absurd p
+root-not-below (fin false (suc m) e) p = scaled-not-below (suc m * up e * 2 ^ (low binary64 + low binary64) / down e)
+
+positive-not-below : (x : Float) → T (positive x) → T (le zeroFloat x)
+unfolding le lt
+positive-not-below nan p = absurd p
+positive-not-below (inf s) p = absurd p
+positive-not-below (fin true m e) p = absurd p
+positive-not-below (fin false m e) p =
+    let size : 0 < m * up e = mul-pos (ltb→lt 0 m p) (up-pos e) in
+    or-left (ltb (0 * 1 * down e) (m * up e * 1)) _ (lt→ltb (0 * 1 * down e) (m * up e * 1) (omega (arith, zero-mul (down e))))
+
+-- the size of a finite value from 0 up that is below v, or above it
+below-size : (q : Float) (n : ℕ) (e : ℤ) → T (finite q) → T (le zeroFloat q) → T (lt q (fin false n e)) → num q * down e < n * up e * den q
+unfolding le lt
+below-size nan n e t z h = absurd t
+below-size (inf s) n e t z h = absurd t
+below-size (fin false m d) n e t z h = ltb→lt (m * up d * down e) (n * up e * down d) h
+below-size (fin true m d) n e t z h =
+    let none : 0 * 1 * down d ≡ m * up d * 1 = eqb→eq (0 * 1 * down d) (m * up d * 1) (and-l (eqb (0 * 1 * down d) (m * up d * 1)) (eqb (0 * 1 * down d) 0) z) in
+    let size : m * up d ≡ 0 = omega (arith, zero-mul (down d)) in
+    let cross : m * up d * down e ≡ 0 = ap (λ (k : ℕ). k * down e) size ∙ zero-mul (down e) in
+    let some : 0 < m * up d * down e + n * up e * down d = ltb→lt 0 (m * up d * down e + n * up e * down d) h in
+    omega arith
+
+above-size : (q : Float) (n : ℕ) (e : ℤ) → T (finite q) → T (lt (fin false n e) q) → n * up e * den q < num q * down e
+unfolding lt
+above-size nan n e t h = absurd t
+above-size (inf s) n e t h = absurd t
+above-size (fin false m d) n e t h = ltb→lt (n * up e * down d) (m * up d * down e) h
+above-size (fin true m d) n e t h = absurd h
+
+-- p / q above 105 is too great for a root of a / b up to 10923: (105 + p / q)² would be at most 4a / b
+root-not-above : (p q a b : ℕ) → 0 < q → 0 < b → 105 * q < p → a ≤ 10923 * b → (105 * q + p) * (105 * q + p) * b ≤ 4 * a * (q * q) → ⊥
+root-not-above p q a b hq hb hp ha h =
+    let s : 210 * q ≤ 105 * q + p = omega arith in
+    let low-side : 210 * q * (210 * q) * b ≤ (105 * q + p) * (105 * q + p) * b = mul-le-mul-right b (mul-le-mul s s) in
+    let high-side : a * (4 * (q * q)) ≤ 10923 * b * (4 * (q * q)) = mul-le-mul-right (4 * (q * q)) ha in
+    let low-is : 210 * q * (210 * q) * b ≡ 44100 * (q * q * b) = simp (add-mul, mul-add, mul-assoc, mul-comm, mul-left-comm) (omega arith) in
+    let high-is : 10923 * b * (4 * (q * q)) ≡ 43692 * (q * q * b) = simp (add-mul, mul-add, mul-assoc, mul-comm, mul-left-comm) (omega arith) in
+    let same : 4 * a * (q * q) ≡ a * (4 * (q * q)) = simp (mul-assoc, mul-comm, mul-left-comm) (omega arith) in
+    let some : 0 < q * q * b = mul-pos (mul-pos hq hq) hb in
+    omega arith
+
+-- and below a quarter too small for a root of a / b from an eighth up
+root-not-under : (p q a b : ℕ) → 0 < q → 0 < b → p * 4 < q → b ≤ 8 * a → 4 * a * (4 * q * (4 * q)) ≤ (q + p * 4) * (q + p * 4) * b → ⊥
+root-not-under p q a b hq hb hp ha h =
+    let s : q + p * 4 ≤ 2 * q = omega arith in
+    let high-side : (q + p * 4) * (q + p * 4) * b ≤ 2 * q * (2 * q) * b = mul-le-mul-right b (mul-le-mul s s) in
+    let low-side : b * (2 * q * (2 * q)) ≤ 8 * a * (2 * q * (2 * q)) = mul-le-mul-right (2 * q * (2 * q)) ha in
+    let low-is : 4 * a * (4 * q * (4 * q)) ≡ 64 * (q * q * a) = simp (add-mul, mul-add, mul-assoc, mul-comm, mul-left-comm) (omega arith) in
+    let high-is : 2 * q * (2 * q) * b ≡ b * (2 * q * (2 * q)) = mul-comm (2 * q * (2 * q)) b in
+    let middle : 8 * a * (2 * q * (2 * q)) ≡ 32 * (q * q * a) = simp (add-mul, mul-add, mul-assoc, mul-comm, mul-left-comm) (omega arith) in
+    let some-a : 0 < a = omega arith in
+    let some : 0 < q * q * a = mul-pos (mul-pos hq hq) some-a in
+    omega arith
+
+le-self : (x : Float) → T (positive x) → T (le x x)
+le-self x p = cross→le x x p p (omega arith)
+
+flag-false : (b : Bool) → (T b → ⊥) → b ≡ false
+flag-false true h = absurd (h tt)
+flag-false false h = refl
+
+flag-true : (b : Bool) → b ≡ true → T b
+flag-true b e = subst T (sym e) tt
+
+finite-number : (x : Float) → T (finite x) → isNan x ≡ false
+unfolding isNan
+finite-number nan t = absurd t
+finite-number (inf s) t = absurd t
+finite-number (fin s m e) t = refl
+
+-- a value x from an eighth to 10923 has a root from a quarter to 105
+module _ (x : Float) (fitting : T (fits binary64 x)) (x-positive : T (positive x)) (above : T (le (fin false 1 (negsuc 2)) x)) (below : T (le x (fin false 10923 (pos 0)))) where
+  abbrev root : Float
+  root = squareRoot binary64 x
+
+  x-above : den x ≤ 8 * num x
+  x-above = let c = le→cross (fin false 1 (negsuc 2)) x tt x-positive above in omega arith
+
+  x-below : num x ≤ 10923 * den x
+  x-below = let c = le→cross x (fin false 10923 (pos 0)) x-positive tt below in omega arith
+
+  root-finite : T (finite root)
+  root-finite = squareRoot-finite binary64 x fitting (positive-finite x x-positive) (positive-not-below x x-positive)
+
+  nothing-nearer : (v : Float) → T (fits binary64 v) → T (finite v) → T (le zeroFloat v) → (T (lt v root) → MiddleAtMostRoot x v root) × (T (lt root v) → MiddleAtLeastRoot x v root)
+  nothing-nearer = squareRoot-nearest binary64 x fitting (positive-finite x x-positive) (positive-not-below x x-positive)
+
+  not-above : T (lt (fin false 105 (pos 0)) root) → ⊥
+  unfolding fits
+  not-above h =
+      let middle = nothing-nearer (fin false 105 (pos 0)) tt tt (positive-not-below (fin false 105 (pos 0)) tt) .0 h in
+      let more = above-size root 105 (pos 0) root-finite h in
+      root-not-above (num root) (den root) (num x) (den x) (den-pos root) (den-pos x) (omega arith) x-below (simp (one-mul, mul-one) at middle)
+
+  not-below : T (lt root (fin false 1 (negsuc 1))) → ⊥
+  unfolding fits
+  not-below h =
+      let middle = nothing-nearer (fin false 1 (negsuc 1)) tt tt (positive-not-below (fin false 1 (negsuc 1)) tt) .1 h in
+      let less = below-size root 1 (negsuc 1) root-finite (root-not-below x x-positive) h in
+      root-not-under (num root) (den root) (num x) (den x) (den-pos root) (den-pos x) (omega arith) x-above (simp (one-mul, mul-one) at middle)
+
+  root-at-most : T (le root (fin false 105 (pos 0)))
+  unfolding isNan
+  root-at-most = flag-true _ (le-of-not-lt root (fin false 105 (pos 0)) (finite-number root root-finite) refl (flag-false _ not-above))
+
+  root-at-least : T (le (fin false 1 (negsuc 1)) root)
+  unfolding isNan
+  root-at-least = flag-true _ (le-of-not-lt (fin false 1 (negsuc 1)) root refl (finite-number root root-finite) (flag-false _ not-below))
+
+  root-positive : T (positive root)
+  root-positive = between (fin false 1 (negsuc 1)) root (fin false 105 (pos 0)) tt tt root-at-least root-at-most
+
+-- ---- the side
+top-is : mul binary64 (fin false 105 (pos 0)) sideFactor ≡ fin false 63 (pos 1)
+unfolding mul round
+top-is = refl
+
+bottom-is : mul binary64 (fin false 1 (negsuc 1)) sideFactor ≡ fin false 5404319552844595 (negsuc 53)
+unfolding mul round
+bottom-is = refl
+
+-- a root from a quarter to 105 times the factor, and its ceiling
+module _ (q : Float) (q-positive : T (positive q)) (least : T (le (fin false 1 (negsuc 1)) q)) (most : T (le q (fin false 105 (pos 0)))) where
+  abbrev across : Float
+  across = mul binary64 q sideFactor
+
+  across-most : T (le across (fin false 63 (pos 1)))
+  across-most =
+      subst (λ (z : Float). T (le across z)) top-is
+      (mul-mono binary64 q (fin false 105 (pos 0)) sideFactor sideFactor q-positive tt tt tt most (le-self sideFactor tt))
+
+  across-least : T (le (fin false 5404319552844595 (negsuc 53)) across)
+  across-least =
+      subst (λ (z : Float). T (le z across)) bottom-is
+      (mul-mono binary64 (fin false 1 (negsuc 1)) q sideFactor sideFactor tt q-positive tt tt least (le-self sideFactor tt))
+
+  across-positive : T (positive across)
+  across-positive = between (fin false 5404319552844595 (negsuc 53)) across (fin false 63 (pos 1)) tt tt across-least across-most
+
+  ceil-most : T (le (ceilOf across) (fin false 63 (pos 1)))
+  ceil-most = ceil-least across (fin false 63 (pos 1)) false 126 (mul-fits binary64 q sideFactor) (refl, refl) across-most
+
+  ceil-positive : T (positive (ceilOf across))
+  ceil-positive =
+      between across (ceilOf across) (fin false 63 (pos 1)) across-positive tt
+      (ceil-not-below across (mul-fits binary64 q sideFactor) (subst (λ (b : Bool). T (not b)) (sym (finite-number across (positive-finite across across-positive))) tt)) ceil-most
+
+-- a value above zero that is at most 126, as a whole number
+converted-at-most : (x : Float) → T (positive x) → T (le x (fin false 63 (pos 1))) → toUnsigned 64 x ≤ 126
+unfolding toUnsigned
+converted-at-most nan p h = absurd p
+converted-at-most (inf s) p h = absurd p
+converted-at-most (fin true m e) p h = absurd p
+converted-at-most (fin false m e) p h =
+    let c = le→cross (fin false m e) (fin false 63 (pos 1)) p tt h in
+    let q : m * up e / down e < 127 = div-lt-iff-lt-mul (down-pos e) .1 (omega (arith, down-pos e)) in
+    omega arith
+
+converts-above : (x : Float) → T (positive x) → T (lt (fin true 1 (pos 0)) x)
+unfolding lt
+converts-above nan p = absurd p
+converts-above (inf s) p = absurd p
+converts-above (fin true m e) p = absurd p
+converts-above (fin false m e) p = lt→ltb 0 (1 * 1 * down e + m * up e * 1) (omega (arith, down-pos e))
+
+converts-below : (x : Float) → T (positive x) → T (le x (fin false 63 (pos 1))) → T (lt x (fin false 1 (pos 64)))
+unfolding lt
+converts-below nan p h = absurd p
+converts-below (inf s) p h = absurd p
+converts-below (fin true m e) p h = absurd p
+converts-below (fin false m e) p h =
+    let c = le→cross (fin false m e) (fin false 63 (pos 1)) p tt h in
+    lt→ltb (m * up e * 1) (1 * 2 ^ 64 * down e) (omega (arith, down-pos e))
+
+module _ (n : ℕ) (some : 1 ≤ n) (few : n ≤ greatestCount) where
+  -- what the side is the conversion of
+  abbrev pub sideFloat : Float
+  sideFloat = ceilOf (mul binary64 (squareRoot binary64 (div binary64 (whole n) (whole 6))) sideFactor)
+
+  side-float : T (positive sideFloat) × T (le sideFloat (fin false 63 (pos 1)))
+  side-float =
+      let x = quotient n some few in
+      let fitting = div-fits binary64 (whole n) (whole 6) in
+      let positive-x = quotient-positive n some few in
+      let least = root-at-least x fitting positive-x (quotient-above n some few) (quotient-below n some few) in
+      let most = root-at-most x fitting positive-x (quotient-above n some few) (quotient-below n some few) in
+      let positive-root = root-positive x fitting positive-x (quotient-above n some few) (quotient-below n some few) in
+      (ceil-positive (squareRoot binary64 x) positive-root least most, ceil-most (squareRoot binary64 x) positive-root least most)
+
+  -- the ceiling lies in the range that the conversion to an unsigned number asks for
+  pub side-converts : T (lt (fin true 1 (pos 0)) sideFloat) × T (lt sideFloat (fin false 1 (pos 64)))
+  side-converts = (converts-above sideFloat (side-float .0), converts-below sideFloat (side-float .0) (side-float .1))
+
+  pub side-bound : (2 ≤ sideOf n) × (sideOf n ≤ 126)
+  unfolding sideOf
+  side-bound = let c = converted-at-most sideFloat (side-float .0) (side-float .1) in (omega arith, omega arith)

@@ -1,0 +1,275 @@
+//! Demand 3's statement, executed: lists of renumbering calls, refused ones among them, on lattices
+//! of the oracle, with both grids built and queried by the engine.
+
+use crate::check::{Check, Tally};
+use crate::directions::{rust_of, Directions};
+use crate::meshes::{permutation, Flat, Lattice, Lists};
+use crate::patterns::Random;
+use crate::walk::lists_of;
+use icotable_oracle as rust;
+use koshirga::{Grid, GridMut, MeshMut, Refusal, Scratch, Vector3};
+
+/// Lists of calls for each frequency, and directions for each list.
+const LISTS: usize = 12;
+const DIRECTIONS: usize = 2_000;
+
+pub fn checks() -> Vec<Check> {
+    vec![
+        Check::new("one entry a vertex", |tally| {
+            calls(tally, 1, &[1, 2, 3, 5, 8, 13, 21, 34])
+        }),
+        Check::new("an entry a pair", |tally| calls(tally, 2, &[1, 2, 3, 4, 5])),
+    ]
+}
+
+/// Mesh and data, as the calls leave them.
+struct State {
+    mesh: Flat,
+    values: Vec<f64>,
+}
+
+/// A call of any kind: a permutation or none, a form or none, scratch long enough or not.
+struct Call {
+    permutation: Vec<u32>,
+    entries_per_vertex: usize,
+    places: usize,
+}
+
+impl Call {
+    fn random(random: &mut Random, state: &State, form: usize) -> Self {
+        let count = state.mesh.count();
+        let mut ids: Vec<u32> = permutation(random, count)
+            .iter()
+            .map(|&id| id as u32)
+            .collect();
+        let longest = [
+            state.mesh.positions.len(),
+            state.mesh.starts.len(),
+            state.mesh.entries.len(),
+            state.values.len(),
+        ];
+        let mut call = Call {
+            entries_per_vertex: if form == 1 { 1 } else { count },
+            places: longest.into_iter().max().unwrap_or(0),
+            permutation: Vec::new(),
+        };
+        match random.below(8) {
+            0 => ids[0] = ids[count - 1],
+            1 => ids.truncate(count - 1),
+            2 => call.entries_per_vertex = count + 1,
+            3 => call.places -= 1,
+            _ => {}
+        }
+        call.permutation = ids;
+        call
+    }
+
+    fn apply(&self, state: &mut State) -> Result<(), u32> {
+        let mesh = MeshMut {
+            positions: &mut state.mesh.positions,
+            starts: &mut state.mesh.starts,
+            entries: &mut state.mesh.entries,
+        };
+        let scratch = Scratch {
+            sources: &mut vec![0; self.places],
+            old_starts: &mut vec![0; self.places],
+            old_entries: &mut vec![0; self.places],
+            done: &mut vec![0; self.places],
+            held: &mut vec![0.0; self.places],
+        };
+        let entries = self.entries_per_vertex;
+        koshirga::renumber(mesh, &mut state.values, &self.permutation, entries, scratch)
+            .map_err(Refusal::number)
+    }
+}
+
+/// The engine's grid of a mesh, cut to a grid's lengths.
+struct Built {
+    side: u32,
+    cell_starts: Vec<u32>,
+    cell_ids: Vec<u16>,
+    triangle_starts: Vec<u32>,
+    triples: Vec<u16>,
+}
+
+impl Built {
+    fn new(mesh: &Flat) -> Result<Self, u32> {
+        let count = mesh.count();
+        let mut cell_starts = vec![0; 6 * 126 * 126 + 1];
+        let mut cell_ids = vec![0; 27 * count];
+        let mut triangle_starts = vec![0; count + 1];
+        let mut triples = vec![0; 3 * mesh.entries.len()];
+        let lent = GridMut {
+            cell_starts: &mut cell_starts,
+            cell_ids: &mut cell_ids,
+            triangle_starts: &mut triangle_starts,
+            triples: &mut triples,
+        };
+        let side = koshirga::build_grid(mesh.as_mesh(), lent).map_err(Refusal::number)?;
+        cell_starts.truncate(6 * (side * side) as usize + 1);
+        cell_ids.truncate(cell_starts[cell_starts.len() - 1] as usize);
+        triples.truncate(3 * triangle_starts[count] as usize);
+        Ok(Built {
+            side,
+            cell_starts,
+            cell_ids,
+            triangle_starts,
+            triples,
+        })
+    }
+
+    fn cell(&self, at: usize) -> &[u16] {
+        &self.cell_ids[self.cell_starts[at] as usize..self.cell_starts[at + 1] as usize]
+    }
+
+    /// The triples at a vertex as a set, each taken through p and sorted.
+    fn triples_at(&self, v: usize, p: impl Fn(u16) -> u32) -> Vec<Vec<u32>> {
+        let part = 3 * self.triangle_starts[v] as usize..3 * self.triangle_starts[v + 1] as usize;
+        let mut triples: Vec<Vec<u32>> = self.triples[part]
+            .chunks(3)
+            .map(|triple| sorted(triple.iter().map(|&id| p(id)).collect()))
+            .collect();
+        triples.sort();
+        triples.dedup();
+        triples
+    }
+
+    fn as_grid<'a>(&'a self, mesh: &'a Flat) -> Grid<'a> {
+        Grid {
+            positions: &mesh.positions,
+            side: self.side,
+            cell_starts: &self.cell_starts,
+            cell_ids: &self.cell_ids,
+            triangle_starts: &self.triangle_starts,
+            triples: &self.triples,
+        }
+    }
+}
+
+fn sorted(mut ids: Vec<u32>) -> Vec<u32> {
+    ids.sort_unstable();
+    ids
+}
+
+/// Positions, lists and data after the list, by the accumulated permutation.
+fn state_moved(before: &State, after: &State, p: &[u32], form: usize) -> bool {
+    let count = before.mesh.count();
+    let through =
+        |list: &[u16]| -> Vec<u16> { list.iter().map(|&id| p[usize::from(id)] as u16).collect() };
+    let (lists, lists_after) = (lists_of(&before.mesh), lists_of(&after.mesh));
+    let bits = |values: &[f64]| -> Vec<u64> { values.iter().map(|x| x.to_bits()).collect() };
+    let vertices = (0..count).all(|v| {
+        let at = p[v] as usize;
+        let position = |mesh: &Flat, v: usize| bits(&mesh.positions[3 * v..3 * v + 3]);
+        position(&before.mesh, v) == position(&after.mesh, at)
+            && through(&lists[v]) == lists_after[at]
+    });
+    let columns = if form == 1 { 1 } else { count };
+    let slab = count * columns;
+    let slabs = before.values.len() / slab;
+    let data = (0..slabs).all(|s| {
+        (0..count).all(|v| {
+            (0..columns).all(|w| {
+                let column = if columns == 1 { w } else { p[w] as usize };
+                let old = before.values[s * slab + v * columns + w];
+                let new = after.values[s * slab + p[v] as usize * columns + column];
+                old.to_bits() == new.to_bits()
+            })
+        })
+    });
+    let tail = bits(&before.values[slabs * slab..]) == bits(&after.values[slabs * slab..]);
+    vertices && data && tail
+}
+
+/// Sides, cells and triples of the two grids.
+fn grids_moved(before: &Built, after: &Built, p: &[u32]) -> bool {
+    let through = |id: u16| p[usize::from(id)];
+    let cells = 6 * (before.side * before.side) as usize;
+    before.side == after.side
+        && (0..cells).all(|at| {
+            let moved = sorted(before.cell(at).iter().map(|&id| through(id)).collect());
+            let now: Vec<u32> = after.cell(at).iter().map(|&id| u32::from(id)).collect();
+            moved == now
+        })
+        && (0..p.len())
+            .all(|v| before.triples_at(v, through) == after.triples_at(p[v] as usize, u32::from))
+}
+
+/// The candidates that have the distance's bits, ascending as in their cell.
+fn at_distance(mesh: &Flat, cell: &[u16], unit: Vector3, distance: f64) -> Vec<u32> {
+    let at = |id: u16, axis: usize| mesh.positions[3 * usize::from(id) + axis];
+    cell.iter()
+        .filter(|&&id| {
+            let vertex = Vector3::new(at(id, 0), at(id, 1), at(id, 2));
+            unit.minus(vertex).norm_squared().to_bits() == distance.to_bits()
+        })
+        .map(|&id| u32::from(id))
+        .collect()
+}
+
+fn calls(tally: &mut Tally, form: usize, frequencies: &[usize]) {
+    let mut random = Random::new(90 + form as u64);
+    for &frequency in frequencies {
+        let lists = Lattice::new(frequency).lists;
+        for list in 0..LISTS {
+            one_list(tally, &mut random, &lists, form, list);
+        }
+    }
+}
+
+fn one_list(tally: &mut Tally, random: &mut Random, lists: &Lists, form: usize, length: usize) {
+    let mesh = lists.flat();
+    let count = mesh.count();
+    let slab = if form == 1 { count } else { count * count };
+    let places = slab * random.below(3) as usize + random.below(slab as u64) as usize;
+    let start = || State {
+        mesh: mesh.clone(),
+        values: (0..places).map(|i| i as f64 + 0.5).collect(),
+    };
+    let (before, mut after) = (start(), start());
+    let mut p: Vec<u32> = (0..count as u32).collect();
+    for _ in 0..length {
+        let call = Call::random(random, &after, form);
+        if call.apply(&mut after).is_ok() {
+            p.iter_mut()
+                .for_each(|id| *id = call.permutation[*id as usize]);
+        }
+    }
+    let name = || format!("{length} calls on {count} vertices, {places} numbers");
+    tally.compare(state_moved(&before, &after, &p, form), || {
+        format!("mesh and data after {}", name())
+    });
+    let (Ok(grid), Ok(grid_after)) = (Built::new(&before.mesh), Built::new(&after.mesh)) else {
+        return tally.compare(false, || format!("a grid was refused after {}", name()));
+    };
+    tally.compare(grids_moved(&grid, &grid_after, &p), || {
+        format!("grids after {}", name())
+    });
+    let cells = rust::FaceGrid::new(&lists.vertices, &lists.neighbors);
+    let mut directions = Directions::new(random.bits(), lists);
+    for _ in 0..DIRECTIONS {
+        let v = directions.direction();
+        let first = grid.as_grid(&before.mesh).find_nearest_vertex(v);
+        let second = grid_after.as_grid(&after.mesh).find_nearest_vertex(v);
+        let same = match (first, second) {
+            (Err(x), Err(y)) => x == y,
+            (Ok(x), Ok(y)) => {
+                let unit = v.normalize();
+                let cell = cells.cell_index(&rust_of(unit));
+                let old = at_distance(&before.mesh, grid.cell(cell), unit, x.distance);
+                let new = at_distance(&after.mesh, grid_after.cell(cell), unit, y.distance);
+                let alone = old.len() == 1;
+                (!alone || y.id == p[x.id as usize])
+                    && old.first() == Some(&x.id)
+                    && new.first() == Some(&y.id)
+                    && x.distance.to_bits() == y.distance.to_bits()
+                    && x.candidates == y.candidates
+                    && x.candidates as usize == grid.cell(cell).len()
+            }
+            _ => false,
+        };
+        tally.compare(same, || {
+            format!("{v:?} after {}: {first:?}, {second:?}", name())
+        });
+    }
+}

@@ -1,0 +1,106 @@
+//! Lattices of the oracle as flat slices, and random meshes.
+
+use crate::patterns::Random;
+use icotable_oracle as rust;
+
+/// The frequencies that row 1 lets pass.
+pub const FREQUENCIES: std::ops::RangeInclusive<usize> = 1..=80;
+
+/// Positions and neighbour lists, as the oracle takes them.
+#[derive(Clone)]
+pub struct Lists {
+    pub vertices: Vec<[f64; 3]>,
+    pub neighbors: Vec<Vec<u16>>,
+}
+
+/// The same as flat slices.
+#[derive(Clone, Debug, PartialEq)]
+pub struct Flat {
+    pub positions: Vec<f64>,
+    pub starts: Vec<u32>,
+    pub entries: Vec<u16>,
+}
+
+impl Flat {
+    pub fn count(&self) -> usize {
+        self.positions.len() / 3
+    }
+
+    pub fn as_mesh(&self) -> koshirga::Mesh<'_> {
+        koshirga::Mesh {
+            positions: &self.positions,
+            starts: &self.starts,
+            entries: &self.entries,
+        }
+    }
+}
+
+impl Lists {
+    pub fn flat(&self) -> Flat {
+        let mut starts = vec![0];
+        let mut entries = Vec::new();
+        for list in &self.neighbors {
+            entries.extend_from_slice(list);
+            starts.push(entries.len() as u32);
+        }
+        Flat {
+            positions: self.vertices.concat(),
+            starts,
+            entries,
+        }
+    }
+
+    /// Up to 40 vertices. Lists hold repeats and own vertices, and a neighbour need not list back;
+    /// in one mesh of two an island is cut off.
+    pub fn random(random: &mut Random) -> Self {
+        let count = 1 + random.below(40);
+        let longest = [6, 6, 6, 32][random.below(4) as usize];
+        let cut = random.below(2 * count).min(count);
+        let list = |random: &mut Random, v: u64| -> Vec<u16> {
+            let (low, high) = if v < cut { (0, cut) } else { (cut, count) };
+            let low = if random.below(8) == 0 { 0 } else { low };
+            (0..random.below(longest + 1))
+                .map(|_| (low + random.below(high - low)) as u16)
+                .collect()
+        };
+        Lists {
+            neighbors: (0..count).map(|v| list(random, v)).collect(),
+            vertices: (0..count)
+                .map(|_| [random.unit(), random.unit(), random.unit()])
+                .collect(),
+        }
+    }
+}
+
+/// The lattice of a frequency, with its id table.
+pub struct Lattice {
+    pub lists: Lists,
+    pub ids: Vec<u16>,
+}
+
+impl Lattice {
+    pub fn new(frequency: usize) -> Self {
+        let geometry = rust::lattice_geometry(frequency);
+        Lattice {
+            ids: geometry
+                .face_ids
+                .concat()
+                .iter()
+                .map(|&id| id as u16)
+                .collect(),
+            lists: Lists {
+                vertices: geometry.vertices,
+                neighbors: geometry.neighbors,
+            },
+        }
+    }
+}
+
+/// A random permutation of the numbers below `count` (Fisher and Yates).
+pub fn permutation(random: &mut Random, count: usize) -> Vec<usize> {
+    let mut numbers: Vec<usize> = (0..count).collect();
+    for last in (1..count).rev() {
+        numbers.swap(last, random.below(last as u64 + 1) as usize);
+    }
+    numbers
+}

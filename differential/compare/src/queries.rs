@@ -1,0 +1,337 @@
+//! Grid queries beside the Rust's, on the oracle's grids of all 80 lattices; and damaged grids
+//! beside a reading of document 01's checks.
+
+use crate::analytic::same_weights;
+use crate::check::{same, Check, Rows, Tally};
+use crate::directions::{row_9, rust_of, Directions};
+use crate::meshes::{Lattice, Lists, FREQUENCIES};
+use crate::patterns::Random;
+use crate::weights::least_by_the_text;
+use icotable_oracle as rust;
+use koshirga::{Located, Nearest, Refusal, Vector3, Weights};
+
+/// Directions of each frequency.
+const DIRECTIONS: usize = 260_000;
+/// Queries of damaged grids.
+const DAMAGED: usize = 1_000_000;
+
+pub fn checks() -> Vec<Check> {
+    vec![
+        Check::new("odd frequencies", |tally| directions(tally, 1)),
+        Check::new("even frequencies", |tally| directions(tally, 0)),
+        Check::new("damaged grids", damaged),
+    ]
+}
+
+/// A grid's slices, cut to the lengths that document 01 gives.
+#[derive(Clone)]
+pub struct Slices {
+    pub positions: Vec<f64>,
+    pub side: u32,
+    pub cell_starts: Vec<u32>,
+    pub cell_ids: Vec<u16>,
+    pub triangle_starts: Vec<u32>,
+    pub triples: Vec<u16>,
+}
+
+impl Slices {
+    pub fn new(lists: &Lists, grid: &rust::FaceGrid) -> Self {
+        let faces = grid.adj_faces();
+        Slices {
+            positions: lists.vertices.concat(),
+            side: grid.grid_size() as u32,
+            cell_starts: grid.vtx_offsets().to_vec(),
+            cell_ids: grid.vertex_ids().to_vec(),
+            triangle_starts: grid.adj_offsets().to_vec(),
+            triples: faces.concat().iter().map(|&id| id as u16).collect(),
+        }
+    }
+
+    pub fn as_grid(&self) -> koshirga::Grid<'_> {
+        koshirga::Grid {
+            positions: &self.positions,
+            side: self.side,
+            cell_starts: &self.cell_starts,
+            cell_ids: &self.cell_ids,
+            triangle_starts: &self.triangle_starts,
+            triples: &self.triples,
+        }
+    }
+
+    fn position(&self, id: usize) -> rust::Vector3 {
+        let [x, y, z] = [0, 1, 2].map(|axis| self.positions[3 * id + axis]);
+        rust::Vector3::new(x, y, z)
+    }
+
+    fn squared_distance(&self, unit: &rust::Vector3, id: usize) -> f64 {
+        (*unit - self.position(id)).norm_squared()
+    }
+}
+
+/// What both queries are to answer.
+struct Answers {
+    nearest: Result<Nearest, u32>,
+    located: Result<Located, u32>,
+}
+
+fn located(face: [usize; 3], [u, v, w]: [f64; 3]) -> Located {
+    let weights = Weights { u, v, w };
+    Located {
+        triple: face.map(|id| id as u32),
+        weights,
+        least: least_by_the_text(weights),
+    }
+}
+
+/// By the Rust's answers; the distance and the count, which it keeps to itself, are worked out
+/// from its grid.
+fn rust_answers(slices: &Slices, grid: &rust::FaceGrid, v: Vector3) -> Answers {
+    let refused = |number| Answers {
+        nearest: Err(number),
+        located: Err(number),
+    };
+    if row_9(v) {
+        return refused(9);
+    }
+    let p = rust_of(v);
+    let unit = p.normalize();
+    let cell = grid.cell_index(&unit);
+    let candidates = grid.vtx_offsets()[cell + 1] - grid.vtx_offsets()[cell];
+    if candidates == 0 {
+        return refused(11);
+    }
+    let id = grid.find_nearest_vertex(&p);
+    let (face, weights) = grid.locate(&p);
+    Answers {
+        nearest: Ok(Nearest {
+            id: id as u32,
+            candidates,
+            distance: slices.squared_distance(&unit, id),
+        }),
+        located: Ok(located(face, weights)),
+    }
+}
+
+fn same_nearest(x: &Result<Nearest, u32>, y: &Result<Nearest, u32>) -> bool {
+    match (x, y) {
+        (Ok(x), Ok(y)) => {
+            x.id == y.id && x.candidates == y.candidates && same(x.distance, y.distance)
+        }
+        (Err(number), Err(other)) => number == other,
+        _ => false,
+    }
+}
+
+fn same_located(x: &Result<Located, u32>, y: &Result<Located, u32>) -> bool {
+    match (x, y) {
+        (Ok(x), Ok(y)) => {
+            x.triple == y.triple && same_weights(x.weights, y.weights) && same(x.least, y.least)
+        }
+        (Err(number), Err(other)) => number == other,
+        _ => false,
+    }
+}
+
+fn compare(tally: &mut Tally, slices: &Slices, v: Vector3, other: Answers, name: &str) {
+    let grid = slices.as_grid();
+    let ours = grid.find_nearest_vertex(v).map_err(Refusal::number);
+    tally.compare(same_nearest(&ours, &other.nearest), || {
+        format!(
+            "nearest, {name}, {v:?}: {ours:?}, other {:?}",
+            other.nearest
+        )
+    });
+    let ours = grid.locate(v).map_err(Refusal::number);
+    tally.compare(same_located(&ours, &other.located), || {
+        format!("locate, {name}, {v:?}: {ours:?}, other {:?}", other.located)
+    });
+}
+
+fn directions(tally: &mut Tally, parity: usize) {
+    for frequency in FREQUENCIES.filter(|frequency| frequency % 2 == parity) {
+        let lists = Lattice::new(frequency).lists;
+        let grid = rust::FaceGrid::new(&lists.vertices, &lists.neighbors);
+        let slices = Slices::new(&lists, &grid);
+        let mut inputs = Directions::new(71 + frequency as u64, &lists);
+        let name = format!("frequency {frequency}");
+        for _ in 0..DIRECTIONS {
+            let v = inputs.direction();
+            compare(tally, &slices, v, rust_answers(&slices, &grid, v), &name);
+        }
+    }
+}
+
+/// Document 01: "A grid query checks count, positions and g against the count (2), the lengths of
+/// both start lists (3), the direction (9); then in its cell a part that falls or runs past the
+/// ids (3), emptiness (11), an id (4); for a triangle the same at the nearest vertex (3, 4), then
+/// 12."
+fn answers_by_the_text(slices: &Slices, v: Vector3) -> Answers {
+    match nearest_by_the_text(slices, v) {
+        Err(number) => Answers {
+            nearest: Err(number),
+            located: Err(number),
+        },
+        Ok(nearest) => Answers {
+            located: located_by_the_text(slices, v, nearest.id as usize),
+            nearest: Ok(nearest),
+        },
+    }
+}
+
+fn refuse_where(holds: bool, number: u32) -> Result<(), u32> {
+    if holds {
+        Err(number)
+    } else {
+        Ok(())
+    }
+}
+
+fn nearest_by_the_text(slices: &Slices, v: Vector3) -> Result<Nearest, u32> {
+    let places = slices.positions.len();
+    let count = places / 3;
+    refuse_where(places == 0 || places % 3 != 0 || count > 65_536, 2)?;
+    let side = ((count as f64 / 6.0).sqrt() * 1.2).ceil().max(2.0) as usize;
+    refuse_where(slices.side as usize != side, 2)?;
+    refuse_where(slices.cell_starts.len() != 6 * side * side + 1, 3)?;
+    refuse_where(slices.triangle_starts.len() != count + 1, 3)?;
+    refuse_where(row_9(v), 9)?;
+    let unit = rust_of(v).normalize();
+    let (face, u, w) = rust::cube_project(&[unit.x, unit.y, unit.z]);
+    let across = |x: f64| {
+        let g = side as f64;
+        (x.mul_add(0.5, 0.5) * g).clamp(0.0, g - 1.0) as usize
+    };
+    let cell = face * side * side + across(u) * side + across(w);
+    let [start, end] = [cell, cell + 1].map(|at| slices.cell_starts[at] as usize);
+    refuse_where(start > end || end > slices.cell_ids.len(), 3)?;
+    let ids = &slices.cell_ids[start..end];
+    refuse_where(ids.is_empty(), 11)?;
+    refuse_where(ids.iter().any(|&id| usize::from(id) >= count), 4)?;
+    let mut best = (ids[0], slices.squared_distance(&unit, ids[0].into()));
+    for &id in &ids[1..] {
+        let distance = slices.squared_distance(&unit, id.into());
+        if distance.total_cmp(&best.1).is_lt() {
+            best = (id, distance);
+        }
+    }
+    Ok(Nearest {
+        id: best.0.into(),
+        candidates: ids.len() as u32,
+        distance: best.1,
+    })
+}
+
+fn located_by_the_text(slices: &Slices, v: Vector3, nearest: usize) -> Result<Located, u32> {
+    let unit = rust_of(v).normalize();
+    let count = slices.positions.len() / 3;
+    let [start, end] = [nearest, nearest + 1].map(|at| 3 * slices.triangle_starts[at] as usize);
+    refuse_where(start > end || end > slices.triples.len(), 3)?;
+    let ids = &slices.triples[start..end];
+    refuse_where(ids.iter().any(|&id| usize::from(id) >= count), 4)?;
+    let mut kept: Option<Located> = None;
+    for triple in ids.chunks(3) {
+        let face = [0, 1, 2].map(|at| usize::from(triple[at]));
+        let [a, b, c] = face.map(|id| slices.position(id));
+        let next = located(face, rust::projected_barycentric(&unit, &a, &b, &c));
+        if next.least > kept.map_or(f64::NEG_INFINITY, |kept| kept.least) {
+            kept = Some(next);
+        }
+    }
+    kept.ok_or(12)
+}
+
+/// Up to three changes of a slice, the side or a position.
+fn damage(random: &mut Random, slices: &mut Slices) {
+    let count = slices.positions.len() / 3;
+    let some = |random: &mut Random, length: usize| random.below(length as u64) as usize;
+    for _ in 0..random.below(4) {
+        match random.below(14) {
+            0 => slices.side = random.below(6) as u32,
+            1 => drop(slices.positions.pop()),
+            2 => slices.positions.truncate(3 * (count - 1)),
+            3 => drop(slices.cell_starts.pop()),
+            4 => slices.triangle_starts.push(0),
+            5 => slices
+                .cell_ids
+                .truncate(some(random, slices.cell_ids.len() + 1)),
+            6 => slices
+                .triples
+                .truncate(some(random, slices.triples.len() + 1)),
+            7 => {
+                let value = random.below(2 * slices.cell_ids.len() as u64 + 2) as u32;
+                let at = some(random, slices.cell_starts.len().max(1));
+                slices
+                    .cell_starts
+                    .iter_mut()
+                    .skip(at)
+                    .take(8)
+                    .for_each(|start| *start = value);
+            }
+            8 => {
+                let value = random.below(2 * slices.triples.len() as u64 + 2) as u32 / 3;
+                let at = some(random, slices.triangle_starts.len().max(1));
+                slices
+                    .triangle_starts
+                    .iter_mut()
+                    .skip(at)
+                    .take(3)
+                    .for_each(|start| *start = value);
+            }
+            9 => {
+                let foreign = count as u16 + random.below(2) as u16;
+                slices
+                    .cell_ids
+                    .iter_mut()
+                    .step_by(5)
+                    .for_each(|id| *id = foreign);
+            }
+            10 => {
+                let foreign = random.below(2 * count as u64) as u16;
+                slices
+                    .triples
+                    .iter_mut()
+                    .step_by(7)
+                    .for_each(|id| *id = foreign);
+            }
+            11 => slices
+                .triangle_starts
+                .iter_mut()
+                .for_each(|start| *start = 0),
+            12 => slices.triangle_starts.fill(u32::MAX),
+            // Positions aren't tested again.
+            _ => {
+                let values = [f64::NAN, f64::INFINITY, 0.0, 1e300, -1e-300];
+                let value = values[some(random, values.len())];
+                slices
+                    .positions
+                    .iter_mut()
+                    .step_by(4)
+                    .for_each(|x| *x = value);
+            }
+        }
+    }
+}
+
+/// Each damaged grid is asked for a hundred directions.
+fn damaged(tally: &mut Tally) {
+    let mut random = Random::new(73);
+    let mut rows = Rows::default();
+    for frequency in 1..=3 {
+        let lists = Lattice::new(frequency).lists;
+        let grid = rust::FaceGrid::new(&lists.vertices, &lists.neighbors);
+        let whole = Slices::new(&lists, &grid);
+        let mut inputs = Directions::new(74, &lists);
+        for at in 0..DAMAGED / 300 {
+            let mut slices = whole.clone();
+            damage(&mut random, &mut slices);
+            let name = format!("damaged grid {at} of frequency {frequency}");
+            for _ in 0..100 {
+                let v = inputs.direction();
+                let answers = answers_by_the_text(&slices, v);
+                rows.count(answers.located.err());
+                compare(tally, &slices, v, answers, &name);
+            }
+        }
+    }
+    rows.all_reached(tally, &[2, 3, 4, 9, 11, 12]);
+}

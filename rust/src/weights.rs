@@ -1,0 +1,58 @@
+//! Barycentric weights of a triangle's corners.
+
+use crate::{ffi, Vector3};
+
+/// Passed to the archive by value, as C lays it out.
+#[repr(C)]
+#[derive(Clone, Copy, Debug, PartialEq)]
+pub struct Weights {
+    pub u: f64,
+    pub v: f64,
+    pub w: f64,
+}
+
+/// The weights of `a`, `b` and `c` at the point of the triangle that is closest to `p` (Ericson,
+/// Real-Time Collision Detection, pp. 141–142). In va, vb and vc the first product is fused (5.4.1)
+/// with the rounded second one; all else is rounded step by step.
+pub fn projected_barycentric(p: Vector3, a: Vector3, b: Vector3, c: Vector3) -> Weights {
+    ffi::koshirga_projected_barycentric(p, a, b, c)
+}
+
+/// The least weight. A NaN is skipped, and the earlier of equals stays.
+pub fn least_weight(weights: Weights) -> f64 {
+    ffi::koshirga_least_weight(weights)
+}
+
+#[cfg(test)]
+mod tests {
+    use super::*;
+
+    const A: Vector3 = Vector3::new(0.0, 0.0, 0.0);
+    const B: Vector3 = Vector3::new(1.0, 0.0, 0.0);
+    const C: Vector3 = Vector3::new(0.0, 1.0, 0.0);
+
+    #[test]
+    fn regions_of_a_triangle() {
+        for (x, y, u, v, w) in [
+            (-1.0, -1.0, 1.0, 0.0, 0.0),
+            (2.0, 0.0, 0.0, 1.0, 0.0),
+            (0.0, 3.0, 0.0, 0.0, 1.0),
+            (0.25, -1.0, 0.75, 0.25, 0.0),
+            (-1.0, 0.25, 0.75, 0.0, 0.25),
+            (1.0, 1.0, 0.0, 0.5, 0.5),
+            (0.25, 0.5, 0.25, 0.25, 0.5),
+        ] {
+            let weights = projected_barycentric(Vector3::new(x, y, 2.0), A, B, C);
+            assert_eq!(weights, Weights { u, v, w }, "({x}, {y})");
+        }
+    }
+
+    #[test]
+    fn least_of_three() {
+        let least = |u, v, w| least_weight(Weights { u, v, w });
+        assert_eq!(least(3.0, 1.0, 2.0), 1.0);
+        assert_eq!(least(f64::NAN, 2.0, f64::NAN), 2.0);
+        assert!(least(0.0, -0.0, 1.0).is_sign_positive());
+        assert!(least(f64::NAN, f64::NAN, f64::NAN).is_nan());
+    }
+}
