@@ -3,13 +3,11 @@ use Prim.Native.Nat.{ℕ, _<_}
 use native.Mathlib.Omega.{arith}
 use mathlib.Core.Path.{_≡_, sym, ap, _∙_}
 use mathlib.Core.Bool.{true}
-use mathlib.Core.List.{List, [], _∷_, List·Memᴰ}
+use mathlib.Core.List.{List, List·Memᴰ}
 use lib.Dec.{ltb}
 use lib.ListN.{length}
 use lib.Ieee.{Float}
 use borrow.Author.Tests.{ltb-true}
-use Rattle.sequences.proofs.Least.{least-member}
-use Rattle.binary64.specs.TotalOrder.{rankOf}
 use Rattle.refusal.specs.declared.Refusal.{Refusal}
 use Rattle.refusal.specs.declared.Verdict.{Verdict}
 use Rattle.refusal.specs.declared.Verdict.the-variants as verdict
@@ -25,12 +23,7 @@ use Rattle.grid_query.specs.Nearest.{squaredDistance, nearestOf, nearest
 use Rattle.grid_query.proofs.IdsBelow.{ids-below-member}
 use Rattle.grid_query.proofs.Answers.{answer-accepted, answer-refused}
 use Rattle.grid_query.proofs.GridRows.{cell-rows-then}
-
--- the nearest of some candidates is one of them
-pub nearest-member : (positions : List Float) (direction : Vector3) (ids : List ℕ) → 0 < length ids → List·Memᴰ (nearestOf positions direction ids) ids
-unfolding nearestOf
-nearest-member positions direction [] h = absurd (let z : ⊥ = omega arith in z)
-nearest-member positions direction (i ∷ is) h = least-member (λ v. rankOf (squaredDistance positions direction v)) i is
+use Rattle.grid_query.proofs.NearestCandidate.{nearest-member}
 
 never-found : (reason : Refusal) (id : ℕ) (distance : Float) (n : ℕ) → nearest.Refused reason ≡ nearest.Found id distance n → ⊥
 never-found reason id distance n h = let z : _≡_ {A = ℕ} 0 1 = cc in omega arith
