@@ -8,11 +8,13 @@ use borrow.Author.Tests.{ltb-true}
 use lib.Dec.{leb, ltb}
 use lib.ListN.{length}
 use Rattle.refusal.specs.declared.Refusal.{Refusal}
-use Rattle.refusal.specs.Refusal.{refusal}
+use Rattle.refusal.specs.declared.Verdict.the-variants.{Passed}
+use Rattle.refusal.specs.Refusal.{refusal, row}
+use Rattle.refusal.proofs.Rows.{row-passed, answer-accepted}
 use Rattle.binary64.specs.TotalOrder.{rankOf}
 use Rattle.vector.specs.declared.Vector3.{Vector3}
 use Rattle.vector.specs.Direction.{admissible}
-use Rattle.icosahedron.specs.Slots.{slotsPerFace, vertexCount}
+use Rattle.icosahedron.specs.Slots.{frequencyFits, slotsPerFace, vertexCount}
 use Rattle.barycentric.specs.declared.Triple.{Triple}
 use Rattle.barycentric.specs.declared.Weights.{Weights}
 use Rattle.analytic.specs.declared.FaceChoice.the-variants as choice
@@ -22,7 +24,7 @@ use Rattle.analytic.specs.declared.Nearest.the-variants.{Vertex}
 use Rattle.master_face.specs.MasterFace.{masterFaceOf}
 use Rattle.analytic.specs.FaceChoice.{signsOf, outsideFirst, flagSum, candidate, chooseFace, faceChoiceOf}
 use Rattle.analytic.specs.SubTriangle.{subTriangleOn}
-use Rattle.analytic.specs.Location.{require, frequencyAccepted, tripleOf, idsBelow, locateOn, locate, lastGreatest, nearestOf, findNearestVertex}
+use Rattle.analytic.specs.Location.{tripleOf, idsBelow, locateOn, queryRows, locate, lastGreatest, nearestOf, findNearestVertex}
 
 -- ---- the choice of a face
 pub either-face : (test : Bool) (x f : ℕ) (w : Refusal) → cond test (choice.Face x) (choice.Refused w) ≡ choice.Face f → (test ≡ true) × (f ≡ x)
@@ -44,33 +46,32 @@ module _ (p : Vector3) where
 
 -- ---- each row answers where it fails and all earlier ones pass
 module _ (n : ℕ) (ids : List ℕ) (p : Vector3) where
-  pub refused-1 : frequencyAccepted n ≡ false → Refused (refusal 1) ≡ locate n ids p
-  unfolding locate
+  pub refused-1 : frequencyFits n ≡ false → Refused (refusal 1) ≡ locate n ids p
+  unfolding queryRows locate
   refused-1 h = rw h
 
-  module _ (row-1 : frequencyAccepted n ≡ true) where
+  module _ (row-1 : frequencyFits n ≡ true) where
     pub refused-8 : leb (20 * slotsPerFace n) (length ids) ≡ false → Refused (refusal 8) ≡ locate n ids p
-    unfolding locate
+    unfolding queryRows locate
     refused-8 h = rw (row-1, h)
 
     module _ (row-8 : leb (20 * slotsPerFace n) (length ids) ≡ true) where
       pub refused-9 : admissible p ≡ false → Refused (refusal 9) ≡ locate n ids p
-      unfolding locate
+      unfolding queryRows locate
       refused-9 h = rw (row-1, row-8, h)
 
       module _ (row-9 : admissible p ≡ true) where
         pub refused-10 : leb (flagSum (outsideFirst p)) 3 ≡ false → Refused (refusal 10) ≡ locate n ids p
-        unfolding locate
+        unfolding queryRows locate
         refused-10 h = rw (row-1, row-8, row-9, h)
 
         pub accepted : leb (flagSum (outsideFirst p)) 3 ≡ true → locateOn n ids (candidate (signsOf p) (flagSum (outsideFirst p))) p ≡ locate n ids p
-        unfolding locate
+        unfolding queryRows locate
         accepted h = rw (row-1, row-8, row-9, h)
 
 -- ---- every id given out is below the vertex count
-passed : (test : Bool) (number : ℕ) (rest : Location) (t : Triple) (w : Weights) → require test number rest ≡ Located t w → (test ≡ true) × (rest ≡ Located t w)
-passed true number rest t w e = (refl, e)
-passed false number rest t w e = let z : _≡_ {A = ℕ} 0 1 = cc in absurd (omega arith)
+no-refusal : (reason : Refusal) (t : Triple) (w : Weights) → Refused reason ≡ Located t w → ⊥
+no-refusal reason t w e = let z : _≡_ {A = ℕ} 0 1 = cc in omega arith
 
 both : (a b : Bool) → (a && b) ≡ true → (a ≡ true) × (b ≡ true)
 both true b e = (refl, e)
@@ -93,20 +94,19 @@ located-on-below : (n : ℕ) (ids : List ℕ) (face : ℕ) (p : Vector3) (t : Tr
 unfolding locateOn
 located-on-below n ids face p t w e =
     let triple = tripleOf n ids face (subTriangleOn n (masterFaceOf face) p) in
-    let k = passed (idsBelow (vertexCount n) triple) 4 _ t w e in
+    let row-4 = row (idsBelow (vertexCount n) triple) (refusal 4) Passed in
+    let found = Located triple (subTriangleOn n (masterFaceOf face) p .weights) in
+    let k = answer-accepted row-4 Refused found (Located t w) (λ reason. no-refusal reason t w) e in
     let same : triple ≡ t = cc (k .1) in
-    subst (λ (x : Triple). IdsBelow (vertexCount n) x) same (ids-below (vertexCount n) triple (k .0))
+    subst (λ (x : Triple). IdsBelow (vertexCount n) x) same (ids-below (vertexCount n) triple (row-passed (idsBelow (vertexCount n) triple) (refusal 4) Passed (k .0) .0))
 
 -- Demand 1: the ids of a located triple are ids of the lattice, whatever the table holds.
 pub located-below : (n : ℕ) (ids : List ℕ) (p : Vector3) (t : Triple) (w : Weights) → locate n ids p ≡ Located t w → IdsBelow (vertexCount n) t
 unfolding locate
 located-below n ids p t w e =
-    let sum = flagSum (outsideFirst p) in
-    let after-1 = passed (frequencyAccepted n) 1 _ t w e in
-    let after-8 = passed (leb (20 * slotsPerFace n) (length ids)) 8 _ t w (after-1 .1) in
-    let after-9 = passed (admissible p) 9 _ t w (after-8 .1) in
-    let after-10 = passed (leb sum 3) 10 _ t w (after-9 .1) in
-    located-on-below n ids (candidate (signsOf p) sum) p t w (after-10 .1)
+    let face = candidate (signsOf p) (flagSum (outsideFirst p)) in
+    let k = answer-accepted (queryRows n ids p) Refused (locateOn n ids face p) (Located t w) (λ reason. no-refusal reason t w) e in
+    located-on-below n ids face p t w (k .1)
 
 -- The nearest vertex is a corner, so it is an id of the lattice too.
 last-greatest-below : (bound : ℕ) (t : Triple) (w : Weights) → IdsBelow bound t → lastGreatest t w < bound

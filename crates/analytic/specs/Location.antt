@@ -4,11 +4,13 @@ use mathlib.Core.Bool.{Bool, cond, _&&_}
 use mathlib.Core.List.{List}
 use lib.Dec.{leb, ltb}
 use lib.ListN.{length, getD}
-use Rattle.refusal.specs.Refusal.{refusal}
+use Rattle.refusal.specs.declared.Verdict.{Verdict}
+use Rattle.refusal.specs.declared.Verdict.the-variants.{Passed}
+use Rattle.refusal.specs.Refusal.{refusal, row, answer}
 use Rattle.binary64.specs.TotalOrder.{rankOf}
 use Rattle.vector.specs.declared.Vector3.{Vector3}
 use Rattle.vector.specs.Direction.{admissible}
-use Rattle.icosahedron.specs.Slots.{slotsPerFace, vertexCount}
+use Rattle.icosahedron.specs.Slots.{frequencyFits, slotsPerFace, vertexCount}
 use Rattle.barycentric.specs.declared.Triple.{Triple}
 use Rattle.barycentric.specs.declared.Weights.{Weights}
 use Rattle.analytic.specs.declared.LatticePoint.{LatticePoint}
@@ -19,10 +21,6 @@ use Rattle.analytic.specs.declared.Nearest.{Nearest}
 use Rattle.master_face.specs.MasterFace.{masterFaceOf}
 use Rattle.analytic.specs.FaceChoice.{signsOf, outsideFirst, flagSum, candidate}
 use Rattle.analytic.specs.SubTriangle.{subTriangleOn, clampedSlot}
-
--- A row of document 01's table: what comes after it where its test passes, its refusal where not.
-abbrev pub require : Bool → ℕ → Location → Location
-require test number rest = cond test rest (Refused (refusal number))
 
 -- the id of a lattice point of a face: "the twenty faces' slots, (n + 1)(n + 2)/2 each, one face behind another"
 unfoldable pub idAt : ℕ → List ℕ → ℕ → LatticePoint → ℕ
@@ -40,20 +38,17 @@ unfoldable pub locateOn : ℕ → List ℕ → ℕ → Vector3 → Location
 locateOn n ids face p =
     let t = subTriangleOn n (masterFaceOf face) p in
     let triple = tripleOf n ids face t in
-    require (idsBelow (vertexCount n) triple) 4 (Located triple (t .weights))
+    answer (row (idsBelow (vertexCount n) triple) (refusal 4) Passed) Refused (Located triple (t .weights))
 
--- Row 1: "below 1, above 80"
-abbrev pub frequencyAccepted : ℕ → Bool
-frequencyAccepted n = leb 1 n && leb n 80
+-- "An analytic query checks the frequency, the id table's length (8), the direction, 10, then the three ids that it reads (4)." The rows before the last:
+unfoldable pub queryRows : ℕ → List ℕ → Vector3 → Verdict
+queryRows n ids p =
+    row (frequencyFits n) (refusal 1)
+    (row (leb (20 * slotsPerFace n) (length ids)) (refusal 8)
+    (row (admissible p) (refusal 9) (row (leb (flagSum (outsideFirst p)) 3) (refusal 10) Passed)))
 
--- "An analytic query checks the frequency, the id table's length (8), the direction, 10, then the three ids that it reads (4)."
 unfoldable pub locate : ℕ → List ℕ → Vector3 → Location
-locate n ids p =
-    require (frequencyAccepted n) 1
-    (require (leb (20 * slotsPerFace n) (length ids)) 8
-    (require (admissible p) 9
-    (require (leb (flagSum (outsideFirst p)) 3) 10
-    (locateOn n ids (candidate (signsOf p) (flagSum (outsideFirst p))) p))))
+locate n ids p = answer (queryRows n ids p) Refused (locateOn n ids (candidate (signsOf p) (flagSum (outsideFirst p))) p)
 
 -- "Nearest is the last corner of greatest weight in total order."
 unfoldable pub lastGreatest : Triple → Weights → ℕ

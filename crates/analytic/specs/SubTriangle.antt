@@ -2,9 +2,9 @@
 use Prim.Native.Nat.{ℕ, _+_, _-_, min}
 use mathlib.Core.Bool.{cond}
 use lib.IntN.{ℤ, pos, negsuc}
-use lib.Ieee.{Float, binary64, ofBits, ofInt, add, sub, mul, lt}
+use lib.Ieee.{Float, binary64, ofBits, add, sub, mul, lt}
 use Rattle.binary64.specs.Integral.{floorOf}
-use Rattle.binary64.specs.Convert.{toI64}
+use Rattle.binary64.specs.Convert.{toI64, whole}
 use Rattle.vector.specs.declared.Vector3.{Vector3}
 use Rattle.icosahedron.specs.Slots.{slotOf}
 use Rattle.barycentric.specs.Weights.{weights}
@@ -25,7 +25,7 @@ clampedFloor n u = clampTo n (toI64 (floorOf u))
 
 -- `u - i as f64`
 abbrev pub fractionOver : ℕ → Float → Float
-fractionOver i u = sub binary64 u (ofInt binary64 (pos i))
+fractionOver i u = sub binary64 u (whole i)
 
 -- 1.5, where up and down sub-triangles are told apart
 abbrev pub split : Float
@@ -63,7 +63,7 @@ subTriangleAt n u v w =
 -- from a direction, "the direction not normalised", on its master face
 unfoldable pub subTriangleOn : ℕ → MasterFace → Vector3 → SubTriangle
 subTriangleOn n face p =
-    let nf = ofInt binary64 (pos n) in
+    let nf = whole n in
     let t = faceWeights face (projected face p) in
     subTriangleAt n (mul binary64 (t .u) nf) (mul binary64 (t .v) nf) (mul binary64 (t .w) nf)
 

@@ -6,7 +6,7 @@ use lib.Ieee.{Float, lt, isNan}
 use Rattle.binary64.proofs.FloatOrder.{lt-left-number, lt-asymmetric}
 use Rattle.barycentric.specs.declared.Weights.{Weights}
 use Rattle.barycentric.specs.Weights.{lesser, leastWeight}
-use Rattle.barycentric.proofs.LessThan.{lt-irreflexive, lt-transitive}
+use Rattle.binary64.proofs.LessThan.{lt-irreflexive, lt-transitive}
 
 -- ---- of two weights, the earlier x and the later y
 -- What holds of the weight that each way of the definition gives holds of the lesser.

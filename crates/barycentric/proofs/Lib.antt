@@ -1,3 +1,2 @@
 pub mod Scalars
-pub mod LessThan
 pub mod LeastWeight

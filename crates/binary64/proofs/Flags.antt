@@ -1,6 +1,6 @@
--- A test that is either of two. Assumes nothing.
+-- Two tests as one: either of them, or both. Assumes nothing.
 use mathlib.Core.Path.{_≡_, refl}
-use mathlib.Core.Bool.{Bool, true, false, _||_}
+use mathlib.Core.Bool.{Bool, true, false, _&&_, _||_, false≢true}
 use lib.Dec.{T}
 
 pub or-left : (p q : Bool) → T p → T (p || q)
@@ -14,3 +14,11 @@ or-right false q t = t
 pub or-left-fails : (p q : Bool) → (p || q) ≡ false → p ≡ false
 or-left-fails true q e = e
 or-left-fails false q e = refl
+
+pub or-either : {X : Type 0} (p q : Bool) → (p || q) ≡ true → (p ≡ true → X) → (q ≡ true → X) → X
+or-either true q e left right = left refl
+or-either false q e left right = right e
+
+pub and-both : (p q : Bool) → (p && q) ≡ true → (p ≡ true) × (q ≡ true)
+and-both true q e = (refl, e)
+and-both false q e = absurd (false≢true e)

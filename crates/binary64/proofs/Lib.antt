@@ -2,6 +2,7 @@ pub mod Nan
 pub mod Tests
 pub mod Flags
 pub mod FloatOrder
+pub mod LessThan
 pub mod SignMagnitude
 pub mod TotalOrder
 pub mod Negation

@@ -18,7 +18,7 @@ use Rattle.lattice.proofs.Counts.{lattice-vertex-count}
 use Rattle.lattice.proofs.Neighbours.{length-positions, mesh-count}
 use Rattle.lattice.proofs.ListLengths.{lattice-entry-count}
 use Rattle.lattice.proofs.Slots.{length-id-table}
-use Rattle.lattice.proofs.Room.{frequency-fits}
+use Rattle.icosahedron.proofs.Frequency.{frequency-fits}
 use Rattle.bracket_list.proofs.Listing.{listable}
 
 module _ (n : ℕ) (lo : 1 ≤ n) (hi : n ≤ 4) where

@@ -9,35 +9,36 @@ use lib.Dec.{eqb}
 use lib.ListN.{length, drop, getD}
 use lib.Seq.{drop-cons, drop-length}
 use borrow.Author.Tests.{eq-eqb, ne-eqb}
+use Rattle.sequences.specs.Equality.{sameNumbers}
 use Rattle.lattice.specs.Lattice.{latticeMesh}
-use Rattle.bracket_list.specs.LatticeList.{meshListing, refusedLine, request, sameBytes, latticeListing}
+use Rattle.bracket_list.specs.LatticeList.{meshListing, refusedLine, request, latticeListing}
 use Rattle.bracket_list.specs.Output.{requestedFrequency}
 
 -- texts of different lengths differ
-pub same-lengths : (a b : List ℕ) → (length a ≡ length b → ⊥) → sameBytes a b ≡ false
-unfolding sameBytes
+pub same-lengths : (a b : List ℕ) → (length a ≡ length b → ⊥) → sameNumbers a b ≡ false
+unfolding sameNumbers
 same-lengths [] [] ne = absurd (ne refl)
 same-lengths [] (y ∷ ys) ne = refl
 same-lengths (x ∷ xs) [] ne = refl
 same-lengths (x ∷ xs) (y ∷ ys) ne = go (eqb x y) (same-lengths xs ys (λ e. ne (ap suc e)))
   where
-    go : (first : Bool) → sameBytes xs ys ≡ false → (first && sameBytes xs ys) ≡ false
+    go : (first : Bool) → sameNumbers xs ys ≡ false → (first && sameNumbers xs ys) ≡ false
     go true e = e
     go false e = refl
 
 module _ (a b : List ℕ) (i : ℕ) (la : i < length a) (lb : i < length b) where
-  same-step : sameBytes (drop i a) (drop i b) ≡ (eqb (getD a i 0) (getD b i 0) && sameBytes (drop (suc i) a) (drop (suc i) b))
-  unfolding sameBytes
+  same-step : sameNumbers (drop i a) (drop i b) ≡ (eqb (getD a i 0) (getD b i 0) && sameNumbers (drop (suc i) a) (drop (suc i) b))
+  unfolding sameNumbers
   same-step = rw (drop-cons a i 0 la, drop-cons b i 0 lb) refl
 
-  pub same-next : getD a i 0 ≡ getD b i 0 → sameBytes (drop (i + 1) a) (drop (i + 1) b) ≡ sameBytes (drop i a) (drop i b)
-  same-next e = rw (add-one i) (sym (same-step ∙ ap (λ (first : Bool). first && sameBytes (drop (suc i) a) (drop (suc i) b)) (eq-eqb (getD a i 0) (getD b i 0) e)))
+  pub same-next : getD a i 0 ≡ getD b i 0 → sameNumbers (drop (i + 1) a) (drop (i + 1) b) ≡ sameNumbers (drop i a) (drop i b)
+  same-next e = rw (add-one i) (sym (same-step ∙ ap (λ (first : Bool). first && sameNumbers (drop (suc i) a) (drop (suc i) b)) (eq-eqb (getD a i 0) (getD b i 0) e)))
 
-  pub same-differs : (getD a i 0 ≡ getD b i 0 → ⊥) → sameBytes (drop i a) (drop i b) ≡ false
-  same-differs ne = same-step ∙ ap (λ (first : Bool). first && sameBytes (drop (suc i) a) (drop (suc i) b)) (ne-eqb (getD a i 0) (getD b i 0) ne)
+  pub same-differs : (getD a i 0 ≡ getD b i 0 → ⊥) → sameNumbers (drop i a) (drop i b) ≡ false
+  same-differs ne = same-step ∙ ap (λ (first : Bool). first && sameNumbers (drop (suc i) a) (drop (suc i) b)) (ne-eqb (getD a i 0) (getD b i 0) ne)
 
-pub same-end : (a b : List ℕ) → length a ≡ length b → (i : ℕ) → i ≡ length a → sameBytes (drop i a) (drop i b) ≡ true
-unfolding sameBytes
+pub same-end : (a b : List ℕ) → length a ≡ length b → (i : ℕ) → i ≡ length a → sameNumbers (drop i a) (drop i b) ≡ true
+unfolding sameNumbers
 same-end a b e i h = rw (h) (rw (drop-length a) (rw e (rw (drop-length b) refl)))
 
 -- what is listed, by the frequency that was asked for
@@ -72,8 +73,8 @@ some-chosen false false false false ne = absurd (ne refl)
 module _ (input : List ℕ) where
   pub listing-refused : requestedFrequency input ≡ 0 → latticeListing input ≡ refusedLine
   unfolding requestedFrequency latticeListing
-  listing-refused e = none-chosen (sameBytes input (request 49)) (sameBytes input (request 50)) (sameBytes input (request 51)) (sameBytes input (request 52)) e
+  listing-refused e = none-chosen (sameNumbers input (request 49)) (sameNumbers input (request 50)) (sameNumbers input (request 51)) (sameNumbers input (request 52)) e
 
   pub listing-asked : (requestedFrequency input ≡ 0 → ⊥) → Asked (requestedFrequency input) (latticeListing input)
   unfolding requestedFrequency latticeListing
-  listing-asked ne = some-chosen (sameBytes input (request 49)) (sameBytes input (request 50)) (sameBytes input (request 51)) (sameBytes input (request 52)) ne
+  listing-asked ne = some-chosen (sameNumbers input (request 49)) (sameNumbers input (request 50)) (sameNumbers input (request 51)) (sameNumbers input (request 52)) ne

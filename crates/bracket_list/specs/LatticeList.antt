@@ -1,10 +1,10 @@
 -- What the program `lattice-list` reads and prints (document 01, "Lattice of frequency n"). Definitions only.
 use Prim.Native.Nat.{ℕ}
-use mathlib.Core.Bool.{Bool, true, false, _&&_, cond}
+use mathlib.Core.Bool.{cond}
 use mathlib.Core.List.{List, [], _∷_, _++_}
-use lib.Dec.{eqb}
 use lib.ListN.{length}
 use Rattle.sequences.specs.Starts.{concatenate}
+use Rattle.sequences.specs.Equality.{sameNumbers}
 use Rattle.mesh.specs.Mesh.{Mesh, count, neighbours}
 use Rattle.walk.specs.Walk.{breadthFirst}
 use Rattle.lattice.specs.Lattice.{latticeMesh}
@@ -56,16 +56,10 @@ refusedLine = 40 ∷ 114 ∷ 101 ∷ 102 ∷ 117 ∷ 115 ∷ 101 ∷ 100 ∷ 32 
 abbrev pub request : ℕ → List ℕ
 request digit = 40 ∷ 108 ∷ 97 ∷ 116 ∷ 116 ∷ 105 ∷ 99 ∷ 101 ∷ 32 ∷ digit ∷ 41 ∷ 10 ∷ []
 
-unfoldable pub sameBytes : List ℕ → List ℕ → Bool
-sameBytes [] [] = true
-sameBytes [] (y ∷ ys) = false
-sameBytes (x ∷ xs) [] = false
-sameBytes (x ∷ xs) (y ∷ ys) = eqb x y && sameBytes xs ys
-
 -- What the program prints for what it read. Anything else, extra bytes, a missing line feed or an early end is refused.
 unfoldable pub latticeListing : List ℕ → List ℕ
 latticeListing input =
-    cond (sameBytes input (request 49)) (meshListing 1 (latticeMesh 1))
-    (cond (sameBytes input (request 50)) (meshListing 2 (latticeMesh 2))
-    (cond (sameBytes input (request 51)) (meshListing 3 (latticeMesh 3))
-    (cond (sameBytes input (request 52)) (meshListing 4 (latticeMesh 4)) refusedLine)))
+    cond (sameNumbers input (request 49)) (meshListing 1 (latticeMesh 1))
+    (cond (sameNumbers input (request 50)) (meshListing 2 (latticeMesh 2))
+    (cond (sameNumbers input (request 51)) (meshListing 3 (latticeMesh 3))
+    (cond (sameNumbers input (request 52)) (meshListing 4 (latticeMesh 4)) refusedLine)))

@@ -6,9 +6,10 @@ use mathlib.Core.List.{List, _∷_, _++_}
 use lib.ListN.{length, take}
 use lib.Seq.{sets}
 use Rattle.sequences.specs.Starts.{concatenate, part}
+use Rattle.sequences.specs.Equality.{sameNumbers}
 use Rattle.lattice.specs.Lattice.{latticeMesh}
 use Rattle.bracket_list.specs.Text.{space, spaced, bracketed, field, line, decimal}
-use Rattle.bracket_list.specs.LatticeList.{latticeWord, frequencyWord, verticesWord, entriesWord, vertexWord, walkWord, request, sameBytes}
+use Rattle.bracket_list.specs.LatticeList.{latticeWord, frequencyWord, verticesWord, entriesWord, vertexWord, walkWord, request}
 
 -- A text was written from a place on, and `next` is the place behind it. Every other place is as it was.
 pub record Written (place : ℕ) (text before : List ℕ) (next : ℕ) (after : List ℕ) : Type 0 where
@@ -46,8 +47,8 @@ listingText frequency n starts entries queue = headText frequency n (length entr
 -- The frequency that an input asks for; 0 where it is no such request.
 unfoldable pub requestedFrequency : List ℕ → ℕ
 requestedFrequency input =
-    cond (sameBytes input (request 49)) 1
-    (cond (sameBytes input (request 50)) 2 (cond (sameBytes input (request 51)) 3 (cond (sameBytes input (request 52)) 4 0)))
+    cond (sameNumbers input (request 49)) 1
+    (cond (sameNumbers input (request 50)) 2 (cond (sameNumbers input (request 51)) 3 (cond (sameNumbers input (request 52)) 4 0)))
 
 -- A text stands at the front of the output, so many bytes of it.
 pub record Printed (text : List ℕ) (size : ℕ) (output : List ℕ) : Type 0 where

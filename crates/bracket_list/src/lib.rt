@@ -6,7 +6,8 @@ ghost use lib.ListN.{length};
 ghost use Rattle.sequences.specs.Starts.{CompressedRows};
 ghost use Rattle.lattice.specs.Lattice.{latticeMesh};
 ghost use Rattle.bracket_list.specs.Text.{decimal, spaced};
-ghost use Rattle.bracket_list.specs.LatticeList.{meshListing, sameBytes, latticeListing};
+ghost use Rattle.bracket_list.specs.LatticeList.{meshListing, latticeListing};
+ghost use Rattle.sequences.specs.Equality.{sameNumbers};
 ghost use Rattle.bracket_list.specs.Output.{Written, separated, headText, vertexText, verticesText, walkText, listingText, requestedFrequency, Printed, LatticeRows};
 
 fn put_byte(output: &mut [u8], place: usize, byte: u8) -> usize
@@ -171,7 +172,7 @@ fn list_mesh(frequency: u32, starts: &[u32], entries: &[u16], output: &mut [u8; 
 }
 
 fn same_bytes(a: &[u8], b: &[u8]) -> bool
-    ensures { λ r. ⌜ r ≡ sameBytes (now (a .entry)) (now (b .entry)) ⌝ }
+    ensures { λ r. ⌜ r ≡ sameNumbers (now (a .entry)) (now (b .entry)) ⌝ }
 {
     if a.len() != b.len() {
         return false;

@@ -4,4 +4,5 @@ pub mod Values
 pub mod Operands
 pub mod Outcomes
 pub mod Special
-pub mod Cases
+pub mod Sign
+pub mod Halves

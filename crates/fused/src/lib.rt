@@ -3,11 +3,11 @@ ghost use mathlib.Core.Path.{_≡_};
 ghost use mathlib.Core.Bool.{false, _&&_};
 ghost use Prim.Native.Nat.{_+_, _-_, _*_, _^_, _<_};
 ghost use lib.Dec.{T};
-ghost use lib.Ieee.{binary64, sum};
+ghost use lib.Ieee.{binary64, ofBits, sum, neg, le};
 ghost use lib.Ieee.Scale.{finite};
 ghost use Rattle.words.specs.Value.{value};
 ghost use Rattle.rounding.specs.Scale.{unpackedScale, productScale};
-ghost use Rattle.fused.specs.Fused.{fusedMultiplyAdd};
+ghost use Rattle.fused.specs.Fused.{fusedMultiplyAdd, half};
 ghost use Rattle.fused.specs.Operands.{Nonzero, Alignable};
 use rounding::Unpacked;
 use words::TwoWords;
@@ -164,4 +164,30 @@ pub fn mul_add(a: f64, b: f64, c: f64) -> f64
     } else {
         mul_add_special(a, b, c)
     }
+}
+
+// 2^-900. A product of two doubles above it has no digit below the smallest double, and half of a
+// double above it is a double.
+const NOT_TINY: f64 = 1.1830521861667747e-271;
+
+// Whether a * b - c, rounded once, is at most 0. Where the product rounded alone is not c, it lies
+// on the same side of c, and the exact sum is not worked out.
+pub fn product_at_most(a: f64, b: f64, c: f64) -> bool
+    ensures { λ r. ⌜ r ≡ le (fusedMultiplyAdd binary64 a b (neg c)) (ofBits binary64 0) ⌝ }
+{
+    let product = a * b;
+    if ((product < c) | (c < product)) & ((product > NOT_TINY) | (product < -NOT_TINY)) {
+        return product < c;
+    }
+    mul_add(a, b, -c) <= 0.0
+}
+
+// x * 0.5 + 0.5, rounded once. Halving is exact, so that the sum alone is rounded.
+pub fn mul_add_halves(x: f64) -> f64
+    ensures { λ r. ⌜ r ≡ fusedMultiplyAdd binary64 x half half ⌝ }
+{
+    if (x > NOT_TINY) | (x < -NOT_TINY) {
+        return x * 0.5 + 0.5;
+    }
+    mul_add(x, 0.5, 0.5)
 }

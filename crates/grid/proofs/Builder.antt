@@ -7,7 +7,7 @@ use lib.Dec.{leb}
 use lib.ListN.{length}
 use Rattle.sequences.specs.Tabulate.{overwrite}
 use Rattle.sequences.specs.Starts.{startOf, startsOf, concatenate}
-use Rattle.sequences.proofs.Starts.{length-concatenate, length-starts, concatenate-extensional, starts-extensional, flatten-append, flatten-even-length}
+use Rattle.sequences.proofs.Starts.{length-concatenate, concatenate-extensional, starts-extensional, flatten-append}
 use Rattle.refusal.specs.declared.Verdict.the-variants.{Passed}
 use Rattle.refusal.specs.Refusal.{refusal}
 use Rattle.mesh.specs.Mesh.{Mesh, count}
@@ -18,7 +18,7 @@ use Rattle.grid.specs.Triangles.{trianglesAt}
 use Rattle.grid.specs.Grid.{GridSlices, idsIn, gridOf, slicesFit, buildRows, filled, build}
 use Rattle.grid.specs.Passes.{idsBelow, idsOfAll}
 use Rattle.grid.specs.Builder.{gridSlices, buildOutcome}
-use Rattle.grid.proofs.TrianglePass.{triangle-three}
+use Rattle.grid.proofs.Grid.{cell-starts-length, triangle-starts-length, triples-total}
 
 flatten-rows : {A : Type 0} (n : ℕ) (f : ℕ → List (List A)) → flatten (concatenate n f) ≡ concatenate n (λ v. flatten (f v))
 unfolding concatenate flatten
@@ -49,25 +49,15 @@ module _ (m : Mesh) where
   unfolding gridOf
   triples-are = sym (flatten-rows (count m) (trianglesAt m))
 
-  cell-starts-room : length (gridOf m .cellStarts) ≡ suc (cellCount g)
-  cell-starts-room = ap length cell-starts-are ∙ length-starts (cellCount g) (idsOfAll (m .positions) g)
-
   cell-ids-room : length (gridOf m .cellIds) ≡ startOf (idsOfAll (m .positions) g) (cellCount g)
   cell-ids-room = ap length cell-ids-are ∙ length-concatenate (cellCount g) (idsOfAll (m .positions) g)
-
-  triangle-starts-room : length (gridOf m .triangleStarts) ≡ suc (count m)
-  triangle-starts-room = ap length triangle-starts-are ∙ length-starts (count m) (trianglesAt m)
-
-  triples-room : length (gridOf m .triples) ≡ startOf (trianglesAt m) (count m) * 3
-  triples-room =
-      ap length triples-are ∙ flatten-even-length 3 (concatenate (count m) (trianglesAt m)) (triangle-three m) ∙ ap (λ (k : ℕ). k * 3) (length-concatenate (count m) (trianglesAt m))
 
   -- row 8 by the totals
   pub room-is : (cells ids lists triples : List ℕ) → slicesFit (gridOf m) (gridSlices cells ids lists triples)
       ≡ (leb (suc (cellCount g)) (length cells) && (leb (startOf (idsOfAll (m .positions) g) (cellCount g)) (length ids) && (leb (suc (count m)) (length lists) && leb (startOf (trianglesAt m) (count m) * 3) (length triples))))
-  unfolding slicesFit
+  unfolding slicesFit gridOf
   room-is cells ids lists triples =
-      λ t. leb (cell-starts-room t) (length cells) && (leb (cell-ids-room t) (length ids) && (leb (triangle-starts-room t) (length lists) && leb (triples-room t) (length triples)))
+      λ t. leb (cell-starts-length m t) (length cells) && (leb (cell-ids-room t) (length ids) && (leb (triangle-starts-length m t) (length lists) && leb (triples-total m t) (length triples)))
 
   module _ (passed : meshRows m ≡ Passed) (lent : GridSlices) where
     pub build-refused : slicesFit (gridOf m) lent ≡ false → buildOutcome (Refused (refusal 8)) lent ≡ build m lent

@@ -5,6 +5,7 @@ use mathlib.Core.Path.{_≡_, refl, sym, ap, _∙_}
 use mathlib.Core.List.{flatten}
 use lib.ListN.{length, getD}
 use Rattle.sequences.specs.Tabulate.{overwrite}
+use Rattle.sequences.specs.Starts.{startOf}
 use Rattle.sequences.proofs.Tabulate.{take-overwrite, overwrite-at}
 use Rattle.sequences.proofs.Starts.{length-starts, starts-at, length-concatenate, start-scaled}
 use Rattle.refusal.specs.declared.Verdict.the-variants.{Passed}
@@ -32,12 +33,15 @@ module _ (m : Mesh) where
   unfolding gridOf
   triangle-starts-length = length-starts (count m) (trianglesAt m)
 
+  pub triples-total : length (gridOf m .triples) ≡ startOf (trianglesAt m) (count m) * 3
+  unfolding gridOf
+  triples-total =
+      length-concatenate (count m) (λ v. flatten (trianglesAt m v))
+      ∙ start-scaled 3 (count m) (trianglesAt m) (λ v. flatten (trianglesAt m v)) (λ v lt. triples-length m v)
+
   pub triangle-starts-last : getD (gridOf m .triangleStarts) (count m) 0 * 3 ≡ length (gridOf m .triples)
   unfolding gridOf
-  triangle-starts-last =
-      ap (λ (k : ℕ). k * 3) (starts-at (count m) (trianglesAt m) (count m) (omega arith))
-      ∙ sym (start-scaled 3 (count m) (trianglesAt m) (λ v. flatten (trianglesAt m v)) (λ v lt. triples-length m v))
-      ∙ sym (length-concatenate (count m) (λ v. flatten (trianglesAt m v)))
+  triangle-starts-last = ap (λ (k : ℕ). k * 3) (starts-at (count m) (trianglesAt m) (count m) (omega arith)) ∙ sym triples-total
 
   -- ---- an accepted call
   pub built-rows : (lent : GridSlices) (g : ℕ) → build m lent .answered ≡ Built g → buildRows m lent ≡ Passed

@@ -1,5 +1,6 @@
 pub mod CubeFace
 pub mod SideBound
+pub mod SideLeast
 pub mod Placing
 pub mod Passes
 pub mod TrianglePass

@@ -24,7 +24,8 @@ use Rattle.root.specs.Middle.{MiddleAtMostRoot, MiddleAtLeastRoot}
 use Rattle.root.proofs.Nearest.{squareRoot-finite, squareRoot-nearest}
 use Rattle.mesh.specs.Rows.{greatestCount}
 use Rattle.grid.specs.CubeFace.{zeroFloat}
-use Rattle.grid.specs.Cells.{whole, sideFactor, sideOf}
+use Rattle.binary64.specs.Convert.{whole}
+use Rattle.grid.specs.Cells.{sideFactor, sideOf}
 
 -- ---- the quotient by 6
 six-is : whole 6 ≡ fin false 3 (pos 1)
@@ -48,7 +49,7 @@ unfolding round
 highest-is = refl
 
 module _ (n : ℕ) (some : 1 ≤ n) (few : n ≤ greatestCount) where
-  abbrev quotient : Float
+  abbrev pub quotient : Float
   quotient = div binary64 (whole n) (whole 6)
 
   whole-value : HasValue (whole n) false n 1
@@ -58,27 +59,27 @@ module _ (n : ℕ) (some : 1 ≤ n) (few : n ≤ greatestCount) where
   whole-positive : T (positive (whole n))
   whole-positive = positive-of-value (whole n) n 1 whole-value (omega arith)
 
-  whole-cross : num (whole n) * 1 ≡ n * den (whole n)
+  pub whole-cross : num (whole n) * 1 ≡ n * den (whole n)
   whole-cross = value→cross (whole n) n 1 whole-value
 
-  quotient-is : quotient ≡ round binary64 false (num (whole n) * 1) (3 * 2 * den (whole n))
+  pub quotient-is : quotient ≡ round binary64 false (num (whole n) * 1) (3 * 2 * den (whole n))
   quotient-is = ap (λ (x : Float). div binary64 (whole n) x) six-is ∙ div-six (whole n) whole-positive
 
-  quotient-above : T (le (fin false 1 (negsuc 2)) quotient)
+  pub quotient-above : T (le (fin false 1 (negsuc 2)) quotient)
   quotient-above =
       subst (λ (z : Float). T (le (fin false 1 (negsuc 2)) z)) (sym quotient-is)
       (subst (λ (z : Float). T (le z (round binary64 false (num (whole n) * 1) (3 * 2 * den (whole n))))) lowest-is
       (round-mono binary64 1 8 (num (whole n) * 1) (3 * 2 * den (whole n)) (omega arith) (omega (arith, den-pos (whole n)))
       (omega (arith, whole-cross, mul-le-mul-right (den (whole n)) some))))
 
-  quotient-below : T (le quotient (fin false 10923 (pos 0)))
+  pub quotient-below : T (le quotient (fin false 10923 (pos 0)))
   quotient-below =
       subst (λ (z : Float). T (le z (fin false 10923 (pos 0)))) (sym quotient-is)
       (subst (λ (z : Float). T (le (round binary64 false (num (whole n) * 1) (3 * 2 * den (whole n))) z)) highest-is
       (round-mono binary64 (num (whole n) * 1) (3 * 2 * den (whole n)) 10923 1 (omega (arith, den-pos (whole n))) (omega arith)
       (omega (arith, whole-cross, mul-le-mul-right (den (whole n)) few))))
 
-  quotient-positive : T (positive quotient)
+  pub quotient-positive : T (positive quotient)
   quotient-positive = between (fin false 1 (negsuc 2)) quotient (fin false 10923 (pos 0)) tt tt quotient-above quotient-below
 
 -- ---- the root
@@ -154,7 +155,7 @@ root-not-under p q a b hq hb hp ha h =
     let some : 0 < q * q * a = mul-pos (mul-pos hq hq) some-a in
     omega arith
 
-le-self : (x : Float) → T (positive x) → T (le x x)
+pub le-self : (x : Float) → T (positive x) → T (le x x)
 le-self x p = cross→le x x p p (omega arith)
 
 flag-false : (b : Bool) → (T b → ⊥) → b ≡ false
@@ -164,7 +165,7 @@ flag-false false h = refl
 flag-true : (b : Bool) → b ≡ true → T b
 flag-true b e = subst T (sym e) tt
 
-finite-number : (x : Float) → T (finite x) → isNan x ≡ false
+pub finite-number : (x : Float) → T (finite x) → isNan x ≡ false
 unfolding isNan
 finite-number nan t = absurd t
 finite-number (inf s) t = absurd t
@@ -201,15 +202,15 @@ module _ (x : Float) (fitting : T (fits binary64 x)) (x-positive : T (positive x
       let less = below-size root 1 (negsuc 1) root-finite (root-not-below x x-positive) h in
       root-not-under (num root) (den root) (num x) (den x) (den-pos root) (den-pos x) (omega arith) x-above (simp (one-mul, mul-one) at middle)
 
-  root-at-most : T (le root (fin false 105 (pos 0)))
+  pub root-at-most : T (le root (fin false 105 (pos 0)))
   unfolding isNan
   root-at-most = flag-true _ (le-of-not-lt root (fin false 105 (pos 0)) (finite-number root root-finite) refl (flag-false _ not-above))
 
-  root-at-least : T (le (fin false 1 (negsuc 1)) root)
+  pub root-at-least : T (le (fin false 1 (negsuc 1)) root)
   unfolding isNan
   root-at-least = flag-true _ (le-of-not-lt (fin false 1 (negsuc 1)) root refl (finite-number root root-finite) (flag-false _ not-below))
 
-  root-positive : T (positive root)
+  pub root-positive : T (positive root)
   root-positive = between (fin false 1 (negsuc 1)) root (fin false 105 (pos 0)) tt tt root-at-least root-at-most
 
 -- ---- the side
@@ -236,13 +237,13 @@ module _ (q : Float) (q-positive : T (positive q)) (least : T (le (fin false 1 (
       subst (λ (z : Float). T (le z across)) bottom-is
       (mul-mono binary64 (fin false 1 (negsuc 1)) q sideFactor sideFactor tt q-positive tt tt least (le-self sideFactor tt))
 
-  across-positive : T (positive across)
+  pub across-positive : T (positive across)
   across-positive = between (fin false 5404319552844595 (negsuc 53)) across (fin false 63 (pos 1)) tt tt across-least across-most
 
   ceil-most : T (le (ceilOf across) (fin false 63 (pos 1)))
   ceil-most = ceil-least across (fin false 63 (pos 1)) false 126 (mul-fits binary64 q sideFactor) (refl, refl) across-most
 
-  ceil-positive : T (positive (ceilOf across))
+  pub ceil-positive : T (positive (ceilOf across))
   ceil-positive =
       between across (ceilOf across) (fin false 63 (pos 1)) across-positive tt
       (ceil-not-below across (mul-fits binary64 q sideFactor) (subst (λ (b : Bool). T (not b)) (sym (finite-number across (positive-finite across across-positive))) tt)) ceil-most
@@ -279,7 +280,7 @@ module _ (n : ℕ) (some : 1 ≤ n) (few : n ≤ greatestCount) where
   abbrev pub sideFloat : Float
   sideFloat = ceilOf (mul binary64 (squareRoot binary64 (div binary64 (whole n) (whole 6))) sideFactor)
 
-  side-float : T (positive sideFloat) × T (le sideFloat (fin false 63 (pos 1)))
+  pub side-float : T (positive sideFloat) × T (le sideFloat (fin false 63 (pos 1)))
   side-float =
       let x = quotient n some few in
       let fitting = div-fits binary64 (whole n) (whole 6) in

@@ -1,21 +1,15 @@
 -- The side of a grid, and the cells that a vertex is placed in (document 01, "Cube grid"). Definitions only.
 use Prim.Native.Nat.{ℕ, suc, _+_, _*_, _/_, _%_, max}
 use mathlib.Core.Bool.{Bool, false, _&&_}
-use mathlib.Core.List.{List}
 use lib.Dec.{leb}
 use lib.IntN.{ℤ, pos, negsuc}
-use lib.Ieee.{Float, fin, binary64, mul, div, lt, ofInt, toUnsigned}
+use lib.Ieee.{Float, fin, binary64, mul, div, lt, toUnsigned}
 use Rattle.binary64.specs.Integral.{ceilOf}
-use Rattle.binary64.specs.Convert.{toI64}
-use Rattle.fused.specs.Fused.{fusedMultiplyAdd}
+use Rattle.binary64.specs.Convert.{toI64, whole}
+use Rattle.fused.specs.Fused.{fusedMultiplyAdd, half}
 use Rattle.root.specs.Root.{squareRoot}
 use Rattle.vector.specs.declared.Vector3.{Vector3}
-use Rattle.grid.specs.declared.Projected.{Projected}
 use Rattle.grid.specs.CubeFace.{faceProjection, zeroFloat}
-
--- A whole number as a double (IEEE 754-2019, 5.4.1, convertFromInt).
-abbrev pub whole : ℕ → Float
-whole n = ofInt binary64 (pos n)
 
 -- The double nearest to 1.2, 5404319552844595 · 2^−52, and the width of the surroundings, "3 by 3".
 abbrev pub sideFactor : Float
@@ -30,9 +24,6 @@ sideOf n = max 2 (toUnsigned 64 (ceilOf (mul binary64 (squareRoot binary64 (div 
 
 abbrev pub cellCount : ℕ → ℕ
 cellCount g = 6 * (g * g)
-
-abbrev pub half : Float
-half = fin false 1 (negsuc 0)
 
 -- "(fused(u/d, 0.5, 0.5))·g", where u lies across a face of g cells, counted in cells.
 unfoldable pub acrossCells : ℕ → Float → Float → Float

@@ -14,7 +14,7 @@ use borrow.Author.Tests.{ltb-false, le-ltb, eqb-true}
 use Rattle.sequences.proofs.Range.{and-split}
 use Rattle.binary64.proofs.FloatOrder.{le-of-not-lt}
 use Rattle.grid.specs.CubeFace.{zeroFloat}
-use Rattle.grid.specs.Cells.{whole}
+use Rattle.binary64.specs.Convert.{whole}
 use Rattle.grid_query.specs.Cell.{clampedCell}
 
 whole-value : (n : ℕ) → n ≤ 2 ^ 53 → HasValue (whole n) false n 1

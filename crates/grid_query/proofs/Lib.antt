@@ -1,4 +1,3 @@
-pub mod Answers
 pub mod Clamp
 pub mod CellBound
 pub mod IdsBelow

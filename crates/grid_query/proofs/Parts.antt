@@ -1,28 +1,21 @@
 -- Parts of a lent grid as code reads them, from the start at i to the start at i + 1. Assumes nothing.
-use Prim.Native.Nat.{ℕ, zero, suc, _+_, _-_, _*_, _≤_}
+use Prim.Native.Nat.{ℕ, _+_, _-_, _*_, _≤_}
 use native.Mathlib.Numerals.{add-one}
-use native.Mathlib.Omega.{arith}
 use mathlib.Core.Path.{_≡_, sym, ap, _∙_}
 use mathlib.Core.Bool.{_&&_}
-use mathlib.Core.List.{List, [], _∷_}
+use mathlib.Core.List.{List}
 use lib.Dec.{leb}
 use lib.ListN.{length, getD, take, drop}
-use lib.Seq.{slice, length-slice, take-nil}
+use lib.Seq.{length-slice}
 use Rattle.sequences.specs.Starts.{part, blockPart}
+use Rattle.sequences.proofs.Tabulate.{slice-as-take}
 use Rattle.grid.specs.Grid.{Grid}
 use Rattle.grid_query.specs.Cell.{partFits, candidates}
 use Rattle.grid_query.specs.Locate.{triplesFit}
 
 module _ {A : Type 0} where
-  -- a part as a slice of a slice reads, and as it is written
-  pub slice-taken : (f t : ℕ) (l : List A) → take (t - f) (drop f l) ≡ slice f t l
-  slice-taken zero t l = ap (λ (n : ℕ). take n l) (let e : t - 0 ≡ t = omega arith in e)
-  slice-taken (suc f) t [] = take-nil (t - suc f) ∙ sym (ap (drop (suc f)) (take-nil t))
-  slice-taken (suc f) zero (x ∷ xs) = ap (λ (n : ℕ). take n (drop f xs)) (let e : 0 - suc f ≡ 0 = omega arith in e)
-  slice-taken (suc f) (suc t) (x ∷ xs) = ap (λ (n : ℕ). take n (drop f xs)) (let e : suc t - suc f ≡ t - f = omega arith in e) ∙ slice-taken f t xs
-
   pub length-taken : (f t : ℕ) (l : List A) → t ≤ length l → length (take (t - f) (drop f l)) ≡ t - f
-  length-taken f t l h = ap length (slice-taken f t l) ∙ length-slice f t l h
+  length-taken f t l h = ap length (sym (slice-as-take f t l)) ∙ length-slice f t l h
 
 module _ (starts : List ℕ) (places i : ℕ) where
   pub part-tested : (leb (getD starts i 0) (getD starts (i + 1) 0) && leb (getD starts (i + 1) 0) places) ≡ partFits starts places i
@@ -32,7 +25,7 @@ module _ (starts : List ℕ) (places i : ℕ) where
 module _ (grid : Grid) (i : ℕ) where
   pub candidates-read : let first = getD (grid .cellStarts) i 0 in take (getD (grid .cellStarts) (i + 1) 0 - first) (drop first (grid .cellIds)) ≡ candidates grid i
   unfolding candidates part
-  candidates-read = slice-taken (getD (grid .cellStarts) i 0) (getD (grid .cellStarts) (i + 1) 0) (grid .cellIds) ∙ rw (add-one i)
+  candidates-read = sym (slice-as-take (getD (grid .cellStarts) i 0) (getD (grid .cellStarts) (i + 1) 0) (grid .cellIds)) ∙ rw (add-one i)
 
   pub triples-tested : (leb (getD (grid .triangleStarts) i 0) (getD (grid .triangleStarts) (i + 1) 0) && leb (getD (grid .triangleStarts) (i + 1) 0 * 3) (length (grid .triples))) ≡ triplesFit grid i
   unfolding triplesFit
@@ -41,4 +34,4 @@ module _ (grid : Grid) (i : ℕ) where
   pub triples-read : let first = getD (grid .triangleStarts) i 0 * 3 in
       take (getD (grid .triangleStarts) (i + 1) 0 * 3 - first) (drop first (grid .triples)) ≡ blockPart 3 (grid .triangleStarts) (grid .triples) i
   unfolding blockPart
-  triples-read = slice-taken (getD (grid .triangleStarts) i 0 * 3) (getD (grid .triangleStarts) (i + 1) 0 * 3) (grid .triples) ∙ rw (add-one i)
+  triples-read = sym (slice-as-take (getD (grid .triangleStarts) i 0 * 3) (getD (grid .triangleStarts) (i + 1) 0 * 3) (grid .triples)) ∙ rw (add-one i)

@@ -10,7 +10,7 @@ use Rattle.sequences.specs.Starts.{blockPart}
 use Rattle.refusal.specs.declared.Refusal.{Refusal}
 use Rattle.refusal.specs.declared.Verdict.the-variants as verdict
 use Rattle.refusal.specs.Refusal.{refusal}
-use Rattle.refusal.proofs.Rows.{row-passed}
+use Rattle.refusal.proofs.Rows.{row-passed, answer-accepted}
 use Rattle.vector.specs.declared.Vector3.{Vector3}
 use Rattle.vector.specs.Vector.{normalized}
 use Rattle.barycentric.specs.declared.Triple.{Triple}
@@ -24,7 +24,6 @@ use Rattle.grid_query.specs.Cell.{idsBelow, cellOfQuery, candidates, inT
 use Rattle.grid_query.specs.Nearest.{nearestOf}
 use Rattle.grid_query.specs.Locate.{weighed, leastKept, keptOf, triplesFit, triangleRows, locatedAt, locate}
 use Rattle.grid_query.proofs.IdsBelow.{ids-below-at}
-use Rattle.grid_query.proofs.Answers.{answer-accepted}
 
 never-located : (reason : Refusal) (triple : Triple) (weights : Weights) (least : Float) → location.Refused reason ≡ location.At triple weights least → ⊥
 never-located reason triple weights least h = let z : _≡_ {A = ℕ} 0 1 = cc in omega arith

@@ -12,7 +12,7 @@ use Rattle.refusal.specs.declared.Refusal.{Refusal}
 use Rattle.refusal.specs.declared.Verdict.{Verdict}
 use Rattle.refusal.specs.declared.Verdict.the-variants as verdict
 use Rattle.refusal.specs.Refusal.{refusal, answer}
-use Rattle.refusal.proofs.Rows.{row-passed, then-passed}
+use Rattle.refusal.proofs.Rows.{row-passed, then-passed, answer-accepted, answer-refused}
 use Rattle.vector.specs.declared.Vector3.{Vector3}
 use Rattle.vector.specs.Vector.{normalized}
 use Rattle.mesh.specs.Mesh.{vertexCount}
@@ -21,7 +21,6 @@ use Rattle.grid_query.specs.declared.Nearest.the-variants as nearest
 use Rattle.grid_query.specs.Cell.{partFits, idsBelow, cellOfQuery, candidates, gridRows, candidateRows, cellRows}
 use Rattle.grid_query.specs.Nearest.{squaredDistance, nearestOf, nearestIn, nearestOfCell, nearestVertex}
 use Rattle.grid_query.proofs.IdsBelow.{ids-below-member}
-use Rattle.grid_query.proofs.Answers.{answer-accepted, answer-refused}
 use Rattle.grid_query.proofs.GridRows.{cell-rows-then}
 use Rattle.grid_query.proofs.NearestCandidate.{nearest-member}
 

@@ -17,7 +17,8 @@ use Rattle.mesh.specs.Mesh.{vertexCount}
 use Rattle.mesh.specs.Rows.{positionsFit}
 use Rattle.grid.specs.declared.Projected.{Projected}
 use Rattle.grid.specs.CubeFace.{zeroFloat, faceProjection, dominantFace}
-use Rattle.grid.specs.Cells.{whole, sideOf, cellCount, acrossCells}
+use Rattle.binary64.specs.Convert.{whole}
+use Rattle.grid.specs.Cells.{sideOf, cellCount, acrossCells}
 use Rattle.grid.specs.Grid.{Grid}
 
 -- A side and four lent slices as a grid.

@@ -11,7 +11,6 @@ ghost use Rattle.barycentric.specs.Weights.{leastWeight};
 ghost use Rattle.barycentric.specs.Ericson.{projectedBarycentric};
 ghost use Rattle.mesh.specs.Mesh.{vertexCount, positionOf};
 ghost use Rattle.mesh.specs.Rows.{greatestCount};
-ghost use Rattle.grid.specs.Cells.{acrossCells};
 ghost use Rattle.grid_query.specs.declared.Located.the-variants.{Refused};
 ghost use Rattle.grid_query.specs.Cell.{lentGrid, clampedCell, cellOf, idsBelow, inTriples, gridRows};
 ghost use Rattle.grid_query.specs.Nearest.{squaredDistance, nearestIn, nearestOfCell, nearestVertex};
@@ -21,7 +20,7 @@ use barycentric::Weights;
 use barycentric::least_weight;
 use barycentric::projected_barycentric;
 use binary64::rank;
-use fused::mul_add;
+use grid::across_cells;
 use grid::cube_face_project;
 use grid::dominant_face;
 use mesh::entries_below;
@@ -52,15 +51,7 @@ pub enum Located {
     },
 }
 
-// How far a point lies across a face of so many cells, counted in cells.
-fn across_cells(side: usize, u: f64, d: f64) -> f64
-    requires { ⌜ side ≤ greatestCount ⌝ }
-    ensures { λ r. ⌜ r ≡ acrossCells side u d ⌝ }
-{
-    mul_add(u / d, 0.5, 0.5) * (side as f64)
-}
-
-// The cell there: clamped to 0..side − 1, then converted. A NaN gives 0.
+// The cell of a coordinate across a face, counted in cells: clamped to 0..side − 1, then converted. A NaN gives 0.
 fn clamped_cell(side: usize, x: f64) -> usize
     requires { ⌜ 0 < side ⌝ ∗ ⌜ side ≤ greatestCount ⌝ }
     ensures { λ r. ⌜ r ≡ clampedCell side x ⌝ }
@@ -106,7 +97,7 @@ fn check_grid(
         return Verdict::Refused(Refusal::new(2));
     }
     let count = vertex_count(positions);
-    if side != grid::side(count) {
+    if !grid::side_is(side, count) {
         return Verdict::Refused(Refusal::new(2));
     }
     if !((cell_starts.len() == 6 * (side * side) + 1) & (triangle_starts.len() == count + 1)) {

@@ -1,3 +1,4 @@
 pub mod Arms
 pub mod Faces
 pub mod Slots
+pub mod Frequency

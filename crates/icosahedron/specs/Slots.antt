@@ -1,5 +1,14 @@
 -- The slots of a master face's lattice points, and the numbers that belong to a frequency. Definitions only.
 use Prim.Native.Nat.{ℕ, _+_, _-_, _*_, _/_}
+use mathlib.Core.Bool.{Bool, _&&_}
+use lib.Dec.{leb}
+
+-- Row 1 of document 01's table refuses a frequency "below 1, above 80".
+abbrev pub greatestFrequency : ℕ
+greatestFrequency = 80
+
+unfoldable pub frequencyFits : ℕ → Bool
+frequencyFits n = leb 1 n && leb n greatestFrequency
 
 -- Document 01, "Lattice of frequency n": "Slot of (a, b) in its face: a(n + 1) − a(a − 1)/2 + b". At a = 0 the product a(a − 1) is 0.
 unfoldable pub slotOf : ℕ → ℕ → ℕ → ℕ

@@ -8,11 +8,12 @@ use mathlib.Core.List.{List, [], _∷_}
 use lib.Dec.{ltb, eqb}
 use lib.ListN.{getD}
 use borrow.Author.Tests.{eqb-true, eq-eqb}
+use Rattle.sequences.specs.Equality.{sameNumbers}
 use Rattle.sequences.specs.Tabulate.{tabulate}
 use Rattle.sequences.proofs.Range.{and-split, and-intro, true-false, below-or-from}
 use Rattle.sequences.proofs.Tabulate.{tabulate-at, tabulate-extensional}
 use Rattle.icosahedron.specs.Icosahedron.{faceCorner}
-use Rattle.lattice.specs.Lattice.{LatticePoint, pointAt, weightOn, weightAt, keyOf, sameNumbers, sameVertex}
+use Rattle.lattice.specs.Lattice.{LatticePoint, pointAt, weightOn, weightAt, keyOf, sameVertex}
 use Rattle.lattice.specs.Appearances.{OnLattice, hasCounted, hasCorners, liesOn, pointWith, appearanceOn}
 use Rattle.lattice.proofs.Corners.{Corners, corners, CornerOf, at-0, at-1, at-2, weight-on-own, weight-on-other, weight-on-none, weight-on-face, counted-cases, corner-counted, corner-or-not}
 

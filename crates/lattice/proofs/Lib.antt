@@ -17,3 +17,4 @@ pub mod Steps
 pub mod Insertion
 pub mod Gather
 pub mod Room
+pub mod Inside

@@ -16,8 +16,9 @@ use Rattle.sequences.specs.Starts.{startOf}
 use Rattle.sequences.proofs.Tabulate.{overwritten-none, overwritten-set, overwritten-all}
 use Rattle.sequences.proofs.Starts.{start-zero, start-suc, length-starts, starts-at, concatenate-even-at}
 use Rattle.vector.specs.declared.Vector3.{Vector3}
-use Rattle.lattice.specs.Lattice.{LatticePoint, latticeVertices, latticeList, latticeMesh, pointPosition, coordinates}
+use Rattle.lattice.specs.Lattice.{LatticePoint, pointAt, latticeVertices, latticeList, latticeMesh, pointPosition, coordinates}
 use Rattle.lattice.specs.Appearances.{isSingle, isCorner}
+use Rattle.lattice.specs.Naming.{pointAfter}
 use Rattle.lattice.proofs.Vertices.{vertexAt}
 use Rattle.lattice.proofs.Neighbours.{length-positions}
 use Rattle.lattice.proofs.ListLengths.{lattice-list-length, lattice-list-start}
@@ -51,6 +52,16 @@ module _ (n : ℕ) (p : LatticePoint) (lo : 1 ≤ n) (within : p .a + p .b ≤ n
 pub five-or-six : (b : Bool) → _≤_ (cond b 5 6) 6
 five-or-six true = omega arith
 five-or-six false = omega arith
+
+-- a face's first point is the one without weight on its first two corners: before any other point stands one of its face
+pub same-face : (n : ℕ) (p q : LatticePoint) → q ≡ pointAfter n p → q .a + q .b ≢ 0 → q .face ≡ p .face
+unfolding pointAfter
+same-face n p q e d = go (ltb (p .a + p .b) n) (ltb (p .a) n) e
+  where
+    go : (x y : Bool) → q ≡ cond x (pointAt (p .face) (p .a) (p .b + 1)) (cond y (pointAt (p .face) (p .a + 1) 0) (pointAt (p .face + 1) 0 0)) → q .face ≡ p .face
+    go true y is = ap (λ (r : LatticePoint). r .face) is
+    go false true is = ap (λ (r : LatticePoint). r .face) is
+    go false false is = absurd (d (ap (λ (r : LatticePoint). r .a + r .b) is))
 
 -- ---- what the mesh holds at a vertex
 module _ (n v : ℕ) (lt : v < length (latticeVertices n)) where

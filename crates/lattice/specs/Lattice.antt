@@ -1,21 +1,23 @@
 -- The lattice of frequency n (document 01, "Lattice of frequency n"). Definitions only.
 use Prim.Native.Nat.{ℕ, zero, suc, _+_, _-_, _*_}
-use mathlib.Core.Bool.{Bool, true, false, _&&_, _||_, cond}
+use mathlib.Core.Bool.{Bool, _&&_, _||_, cond}
 use mathlib.Core.List.{List, [], _∷_, _++_, map}
 use lib.Dec.{leb, eqb}
-use lib.IntN.{pos}
 use lib.ListN.{length, getD}
-use lib.Ieee.{Float, binary64, ofInt}
+use lib.Ieee.{Float}
 use Rattle.sequences.specs.Range.{someBelow}
 use Rattle.sequences.specs.Tabulate.{tabulate, overwrite}
 use Rattle.sequences.specs.Starts.{concatenate, startsOf}
 use Rattle.sequences.specs.Filter.{filterRange}
+use Rattle.sequences.specs.Equality.{sameNumbers}
 use Rattle.refusal.specs.declared.Verdict.{Verdict}
 use Rattle.refusal.specs.declared.Verdict.the-variants.{Passed, Refused}
 use Rattle.refusal.specs.Refusal.{refusal, row, answer}
+use Rattle.binary64.specs.Convert.{whole}
 use Rattle.vector.specs.declared.Vector3.{Vector3}
 use Rattle.vector.specs.Vector.{vectorSum, vectorMultiple, vectorQuotient, normalized}
 use Rattle.icosahedron.specs.Icosahedron.{faceCorner, cornerPoint}
+use Rattle.icosahedron.specs.Slots.{frequencyFits}
 use Rattle.mesh.specs.Mesh.{Mesh}
 
 -- A point of a master face: a on the first corner, b on the second, n − a − b on the third.
@@ -43,12 +45,6 @@ weightAt n p corner =
 unfoldable pub keyOf : ℕ → LatticePoint → List ℕ
 keyOf n p = tabulate 12 (weightAt n p)
 
-unfoldable pub sameNumbers : List ℕ → List ℕ → Bool
-sameNumbers [] [] = true
-sameNumbers [] (y ∷ ys) = false
-sameNumbers (x ∷ xs) [] = false
-sameNumbers (x ∷ xs) (y ∷ ys) = eqb x y && sameNumbers xs ys
-
 -- "Equal keys are one vertex".
 unfoldable pub sameVertex : ℕ → LatticePoint → LatticePoint → Bool
 sameVertex n p q = sameNumbers (keyOf n p) (keyOf n q)
@@ -70,9 +66,6 @@ latticeVertices n = firstAppearances n [] (latticePoints n)
 -- The id of a point's vertex.
 unfoldable pub idOf : ℕ → LatticePoint → ℕ
 idOf n p = firstPlaceFrom n 0 (latticeVertices n) p
-
-abbrev pub whole : ℕ → Float
-whole k = ofInt binary64 (pos k)
 
 -- "the position is that appearance's ((a·P1 + b·P2) + c·P3)/n, normalised"
 unfoldable pub pointPosition : ℕ → LatticePoint → Vector3
@@ -125,13 +118,6 @@ unfoldable pub idTable : ℕ → List ℕ
 idTable n = map (idOf n) (latticePoints n)
 
 -- ---- the whole outcome of a call
-
--- Row 1 refuses a frequency "below 1, above 80".
-abbrev pub greatestFrequency : ℕ
-greatestFrequency = 80
-
-unfoldable pub frequencyFits : ℕ → Bool
-frequencyFits n = leb 1 n && leb n greatestFrequency
 
 -- The slices lent, and as the call leaves them.
 pub record LatticeSlices : Type 0 where

@@ -3,3 +3,4 @@ pub mod Appearances
 pub mod Shared
 pub mod Naming
 pub mod Gathering
+pub mod Inside

@@ -1,8 +1,9 @@
 -- Laws of one renumbering call: what an accepted one has, and what is left of mesh and data. Assumes nothing.
-use Prim.Native.Nat.{ℕ}
+use Prim.Native.Nat.{ℕ, max}
 use mathlib.Core.Path.{_≡_, refl}
 use mathlib.Core.Bool.{true}
 use mathlib.Core.List.{List}
+use lib.ListN.{length}
 use lib.Ieee.{Float}
 use Rattle.sequences.specs.Permutation.{IsPermutation, isPermutation}
 use Rattle.sequences.proofs.Permutation.{is-permutation-sound}
@@ -12,9 +13,9 @@ use Rattle.refusal.specs.Refusal.{refusal}
 use Rattle.refusal.proofs.Rows.{row-passed}
 use Rattle.mesh.specs.Mesh.{Mesh, count}
 use Rattle.mesh.proofs.Facts.{AdjacencyFacts, adjacency-passed}
-use Rattle.renumber.specs.Renumber.{Call, entriesPerVertexFit, longestLength, callRows, renumberRows, renumberedMesh, renumberedData, renumber}
+use Rattle.renumber.specs.Renumber.{Call, entriesPerVertexFit, longestLength, scratchFits, callRows, renumberRows, renumberedMesh, renumberedData, renumber}
 
--- rows 6 and 7 of an accepted call
+-- rows 6, 7 and 8 of an accepted call
 pub accepted-permutation : (n longest : ℕ) (call : Call) → callRows n longest call ≡ Passed → IsPermutation n (call .permutation)
 unfolding callRows
 accepted-permutation n longest call h = is-permutation-sound n (call .permutation) (row-passed (isPermutation n (call .permutation)) (refusal 6) _ h .0)
@@ -23,6 +24,12 @@ pub accepted-entries : (n longest : ℕ) (call : Call) → callRows n longest ca
 unfolding callRows
 accepted-entries n longest call h =
     row-passed (entriesPerVertexFit n (call .entriesPerVertex)) (refusal 7) _ (row-passed (isPermutation n (call .permutation)) (refusal 6) _ h .1) .0
+
+pub accepted-scratch : (n longest : ℕ) (call : Call) → callRows n longest call ≡ Passed → scratchFits (max longest (length (call .permutation))) (call .scratchLengths) ≡ true
+unfolding callRows
+accepted-scratch n longest call h =
+    row-passed (scratchFits (max longest (length (call .permutation))) (call .scratchLengths)) (refusal 8) _
+    (row-passed (entriesPerVertexFit n (call .entriesPerVertex)) (refusal 7) _ (row-passed (isPermutation n (call .permutation)) (refusal 6) _ h .1) .1) .0
 
 -- "The mesh rows can't refuse, as the start passed them."
 pub call-rows-decide : (m : Mesh) → AdjacencyFacts m → (values : List Float) (call : Call) → renumberRows m values call ≡ callRows (count m) (longestLength m values) call

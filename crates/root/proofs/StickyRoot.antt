@@ -2,7 +2,7 @@
 use mathlib.Core.Path.{_≡_, refl, sym, ap, _∙_}
 use mathlib.Core.Logic.{_⊎_, inl, inr}
 use Prim.Native.Nat.{ℕ, _+_, _*_, _/_, _%_, _^_, _≤_, _<_}
-use native.Mathlib.Nat.{le-trans, le-of-eq, lt-of-le-of-lt, lt-of-lt-of-le, eq-of-mul-eq-mul-right, mul-lt-mul-of-pos-right, mul-le-mul-right, mul-comm, mul-assoc, mul-left-comm, mul-mul-mul-comm, mul-add, add-mul, add-zero, mul-pos, mul-div-cancel, mul-mod-left, le-add-right, div-add-mod', zero-add, div-eq-of-lt-le, div-div-eq-div-mul, mul-div-mul-right}
+use native.Mathlib.Nat.{le-trans, le-of-eq, lt-of-le-of-lt, lt-of-lt-of-le, eq-of-mul-eq-mul-right, mul-lt-mul-of-pos-right, mul-le-mul-right, mul-comm, mul-assoc, mul-left-comm, mul-mul-mul-comm, mul-add, add-mul, add-zero, mul-pos, mul-div-cancel, mul-mod-left, le-add-right, div-add-mod', div-eq-of-lt-le, div-div-eq-div-mul, mul-div-mul-right}
 use native.Mathlib.Omega.{arith}
 use mathlib.Core.Bool.{Bool, true, false, cond}
 use lib.Dec.{T, eqb, eqb→eq}
@@ -12,7 +12,7 @@ use lib.Ieee.Bits.{is-true}
 use lib.Ieee.Fits.{eq→eqb}
 use Rattle.words.specs.Sticky.{StickyEquivalent}
 use Rattle.words.proofs.StickyShift.{multiple-split, sticky-rescale}
-use Rattle.rounding.specs.Scale.{productScale}
+use Rattle.rounding.specs.Scale.{highWordScale}
 use Rattle.rounding.proofs.RoundSticky.{round-sticky}
 use Rattle.root.specs.Root.{integerRoot, rootInHalves, scaledRoot}
 use Rattle.root.proofs.IntegerRoot.{square-lt, square-lt-back, integer-root}
@@ -93,35 +93,35 @@ module _ (q m u A : ℕ) (le : m ≤ 2 * q) (is : q * q + m ≡ u) (A-pos : 0 < 
           omega arith
       go false h k = absurd (odd whole-root (q * A) k)
 
-  -- among the multiples of 2 ^ 64: the root in halves, and q with a word below it that is 0 where the remainder is
-  sticky-root : (s : ℕ) → s < 2 ^ 64 → (m ≡ 0 → s ≡ 0) → (s ≡ 0 → m ≡ 0) → StickyEquivalent (2 ^ 64) (2 * A) (in-halves * 2 ^ 64) (q * 2 ^ 64 + s)
+  -- among the multiples of 2 ^ 10: the root in halves, and q with ten bits below it that are 0 where the remainder is
+  sticky-root : (s : ℕ) → s < 2 ^ 10 → (m ≡ 0 → s ≡ 0) → (s ≡ 0 → m ≡ 0) → StickyEquivalent (2 ^ 10) (2 * A) (in-halves * 2 ^ 10) (q * 2 ^ 10 + s)
   sticky-root s l f g =
       let D : 0 < 2 * A = omega arith in record {
-        quotient = mul-div-mul-right in-halves (2 * A) (pow-pos 64) ∙ quotient-is ∙ sym (high q 64 l);
-        exact = λ h. low q 64 l ∙ f (no-remainder (rebuilt in-halves (2 * A) q quotient-is (unscaled in-halves (2 * A) D h)));
-        only-exact = λ h. ap (λ (x : ℕ). x * 2 ^ 64 % (2 * A * 2 ^ 64)) (exact-root (g (sym (low q 64 l) ∙ h))) ∙ ap (λ (x : ℕ). x % (2 * A * 2 ^ 64)) (mul-assoc q (2 * A) (2 ^ 64)) ∙ mul-mod-left q (2 * A * 2 ^ 64);
+        quotient = mul-div-mul-right in-halves (2 * A) (pow-pos 10) ∙ quotient-is ∙ sym (high q 10 l);
+        exact = λ h. low q 10 l ∙ f (no-remainder (rebuilt in-halves (2 * A) q quotient-is (unscaled in-halves (2 * A) D h)));
+        only-exact = λ h. ap (λ (x : ℕ). x * 2 ^ 10 % (2 * A * 2 ^ 10)) (exact-root (g (sym (low q 10 l) ∙ h))) ∙ ap (λ (x : ℕ). x % (2 * A * 2 ^ 10)) (mul-assoc q (2 * A) (2 ^ 10)) ∙ mul-mod-left q (2 * A * 2 ^ 10);
       }
     where
       rebuilt : (x D q : ℕ) → x / D ≡ q → x % D ≡ 0 → x ≡ q * D
       rebuilt x D q e z = sym (div-add-mod' x D) ∙ ap (λ (y : ℕ). x / D * D + y) z ∙ add-zero (x / D * D) ∙ ap (λ (y : ℕ). y * D) e
 
-      unscaled : (x D : ℕ) → 0 < D → x * 2 ^ 64 % (D * 2 ^ 64) ≡ 0 → x % D ≡ 0
-      unscaled x D d h = ap (λ (y : ℕ). y % D) (sym (mul-div-cancel x (pow-pos 64))) ∙ multiple-split (x * 2 ^ 64) D (2 ^ 64) d (pow-pos 64) h .0
+      unscaled : (x D : ℕ) → 0 < D → x * 2 ^ 10 % (D * 2 ^ 10) ≡ 0 → x % D ≡ 0
+      unscaled x D d h = ap (λ (y : ℕ). y % D) (sym (mul-div-cancel x (pow-pos 10))) ∙ multiple-split (x * 2 ^ 10) D (2 ^ 10) d (pow-pos 10) h .0
 
-  root-rounds : (h s : ℕ) → A ≡ 2 ^ (h + 483) → 2 ^ 53 ≤ q → s < 2 ^ 64 → (m ≡ 0 → s ≡ 0) → (s ≡ 0 → m ≡ 0)
-      → round binary64 false ((q * 2 ^ 64 + s) * 2 ^ (h + 1621)) (2 ^ productScale) ≡ scaledRoot binary64 radicand
+  root-rounds : (h s : ℕ) → A ≡ 2 ^ (h + 483) → 2 ^ 53 ≤ q → s < 2 ^ 10 → (m ≡ 0 → s ≡ 0) → (s ≡ 0 → m ≡ 0)
+      → round binary64 false ((q * 2 ^ 10 + s) * 2 ^ (h + 1739)) (2 ^ highWordScale) ≡ scaledRoot binary64 radicand
   unfolding scaledRoot whole-root in-halves
   root-rounds h s a big l f g =
-      let e = h + 1621 in
-      let w = q * 2 ^ 64 + s in
-      let c : in-halves * 2 ^ 64 * (2 ^ 1075 * 2 ^ (64 + e)) ≡ in-halves * 2 ^ 2276 * (2 * A * 2 ^ 64) =
-      mul-assoc in-halves (2 ^ 64) (2 ^ 1075 * 2 ^ (64 + e)) ∙ ap (λ (x : ℕ). in-halves * x) powers ∙ sym (mul-assoc in-halves (2 ^ 2276) (2 * A * 2 ^ 64)) in
-      sym (round-sticky binary64 false in-halves (2 ^ 1075) (w * 2 ^ e) (64 + e) 1202 (pow-pos 1075)
-      (sticky-rescale (2 ^ 64) (2 * A) (in-halves * 2 ^ 64) w (2 ^ (64 + e)) (2 ^ 1075) (in-halves * 2 ^ 2276) (w * 2 ^ e) (pow-pos 64) (let k : 0 < 2 * A = omega arith in k) (pow-pos (64 + e)) (pow-pos 1075)
-      c (ap (λ (x : ℕ). w * x) (pow-add 2 64 e ∙ mul-comm (2 ^ 64) (2 ^ e)) ∙ sym (mul-assoc w (2 ^ e) (2 ^ 64))) (sticky-root s l f g))
-      (le-trans (le-of-eq (ap (λ (x : ℕ). 2 ^ x) (places e) ∙ pow-add 2 117 e)) (mul-le-mul-right (2 ^ e) (le-trans (mul-le-mul-right (2 ^ 64) big) (le-add-right (q * 2 ^ 64) s)))))
+      let e = h + 1739 in
+      let w = q * 2 ^ 10 + s in
+      let c : in-halves * 2 ^ 10 * (2 ^ 1075 * 2 ^ (10 + e)) ≡ in-halves * 2 ^ 2340 * (2 * A * 2 ^ 10) =
+      mul-assoc in-halves (2 ^ 10) (2 ^ 1075 * 2 ^ (10 + e)) ∙ ap (λ (x : ℕ). in-halves * x) powers ∙ sym (mul-assoc in-halves (2 ^ 2340) (2 * A * 2 ^ 10)) in
+      sym (round-sticky binary64 false in-halves (2 ^ 1075) (w * 2 ^ e) (10 + e) 1266 (pow-pos 1075)
+      (sticky-rescale (2 ^ 10) (2 * A) (in-halves * 2 ^ 10) w (2 ^ (10 + e)) (2 ^ 1075) (in-halves * 2 ^ 2340) (w * 2 ^ e) (pow-pos 10) (let k : 0 < 2 * A = omega arith in k) (pow-pos (10 + e)) (pow-pos 1075)
+      c (ap (λ (x : ℕ). w * x) (pow-add 2 10 e ∙ mul-comm (2 ^ 10) (2 ^ e)) ∙ sym (mul-assoc w (2 ^ e) (2 ^ 10))) (sticky-root s l f g))
+      (le-trans (le-of-eq (ap (λ (x : ℕ). 2 ^ x) (places e) ∙ pow-add 2 63 e)) (mul-le-mul-right (2 ^ e) (le-trans (mul-le-mul-right (2 ^ 10) big) (le-add-right (q * 2 ^ 10) s)))))
     where
-      places : (e : ℕ) → 64 + e + 53 ≡ 117 + e
+      places : (e : ℕ) → 10 + e + 53 ≡ 63 + e
       places e = omega arith
 
       left : (a b J K : ℕ) → a * (b * (J * K)) ≡ J * (a * (b * K))
@@ -130,27 +130,24 @@ module _ (q m u A : ℕ) (le : m ≤ 2 * q) (is : q * q + m ≡ u) (A-pos : 0 < 
       right : (c t J K e : ℕ) → c * (t * (J * K) * e) ≡ J * (c * (t * K * e))
       right c t J K e = simp (mul-assoc, mul-left-comm)
 
-      powers : 2 ^ 64 * (2 ^ 1075 * 2 ^ (64 + (h + 1621))) ≡ 2 ^ 2276 * (2 * A * 2 ^ 64)
-      powers = ap (λ (x : ℕ). 2 ^ 64 * (2 ^ 1075 * x)) (ap (λ (x : ℕ). 2 ^ x) (let k : 64 + (h + 1621) ≡ h + 1685 = omega arith in k) ∙ pow-add 2 h 1685) ∙ left (2 ^ 64) (2 ^ 1075) (2 ^ h) (2 ^ 1685)
-          ∙ sym (ap (λ (x : ℕ). 2 ^ 2276 * (2 * x * 2 ^ 64)) (a ∙ pow-add 2 h 483) ∙ right (2 ^ 2276) 2 (2 ^ h) (2 ^ 483) (2 ^ 64))
+      powers : 2 ^ 10 * (2 ^ 1075 * 2 ^ (10 + (h + 1739))) ≡ 2 ^ 2340 * (2 * A * 2 ^ 10)
+      powers = ap (λ (x : ℕ). 2 ^ 10 * (2 ^ 1075 * x)) (ap (λ (x : ℕ). 2 ^ x) (let k : 10 + (h + 1739) ≡ h + 1749 = omega arith in k) ∙ pow-add 2 h 1749) ∙ left (2 ^ 10) (2 ^ 1075) (2 ^ h) (2 ^ 1749)
+          ∙ sym (ap (λ (x : ℕ). 2 ^ 2340 * (2 * x * 2 ^ 10)) (a ∙ pow-add 2 h 483) ∙ right (2 ^ 2340) 2 (2 ^ h) (2 ^ 483) (2 ^ 10))
 
 -- ---- as the program has it: 54 digits are found of the root of w * 2 ^ 44
-pub after-54 : (q m t w : ℕ) → t < 2 ^ 64 → (q * q + m) * 2 ^ 64 + t ≡ 4 ^ 54 * ((0 * 0 + 0) * 2 ^ 64 + w) → q * q + m ≡ w * 2 ^ 44
-after-54 q m t w l e =
-    sym (high (q * q + m) 64 l)
-    ∙ ap (λ (x : ℕ). x / 2 ^ 64) (e ∙ ap (λ (x : ℕ). 4 ^ 54 * x) (zero-add w) ∙ mul-comm (4 ^ 54) w ∙ sym (mul-assoc w (2 ^ 44) (2 ^ 64)))
-    ∙ mul-div-cancel (w * 2 ^ 44) (pow-pos 64)
-
 pub full-significand : (q m w : ℕ) → m ≤ 2 * q → q * q + m ≡ w * 2 ^ 44 → 2 ^ 62 ≤ w → 2 ^ 53 ≤ q
 full-significand q m w h e l =
     let a : 2 ^ 53 < q + 1 = square-lt-back (2 ^ 53) (q + 1) (lt-of-le-of-lt (mul-le-mul-right (2 ^ 44) l) (next-square q m (w * 2 ^ 44) h e)) in
     omega arith
 
+pub significand-lt : (q m w : ℕ) → q * q + m ≡ w * 2 ^ 44 → w < 2 ^ 64 → q < 2 ^ 54
+significand-lt q m w e l = square-lt-back q (2 ^ 54) (let k : q * q < 2 ^ 54 * 2 ^ 54 = omega arith in k)
+
 -- s is the sticky bit of the remainder m
 abbrev pub StickyBit : ℕ → ℕ → Type 0
 StickyBit m s = ((m ≡ 0) × (s ≡ 0)) ⊎ ((m ≡ 0 → ⊥) × (s ≡ 1))
 
-sticky-lt : (m s : ℕ) → StickyBit m s → s < 2 ^ 64
+pub sticky-lt : (m s : ℕ) → StickyBit m s → s < 2 ^ 10
 sticky-lt m s (inl (z, e)) = omega arith
 sticky-lt m s (inr (z, e)) = omega arith
 
@@ -163,7 +160,7 @@ zero-sticky m s (inl (z, e)) h = z
 zero-sticky m s (inr (z, e)) h = absurd (omega arith)
 
 pub word-rounds : (q m w h s : ℕ) → m ≤ 2 * q → q * q + m ≡ w * 2 ^ 44 → 2 ^ 62 ≤ w → StickyBit m s
-    → round binary64 false ((q * 2 ^ 64 + s) * 2 ^ (h + 1621)) (2 ^ productScale) ≡ scaledRoot binary64 (w * 2 ^ (2 * h + 1010))
+    → round binary64 false ((q * 2 ^ 10 + s) * 2 ^ (h + 1739)) (2 ^ highWordScale) ≡ scaledRoot binary64 (w * 2 ^ (2 * h + 1010))
 unfolding radicand
 word-rounds q m w h s le e l bit =
     root-rounds q m (w * 2 ^ 44) (2 ^ (h + 483)) le e (pow-pos (h + 483)) h s refl (full-significand q m w le e l) (sticky-lt m s bit) (sticky-zero m s bit) (zero-sticky m s bit) ∙ ap (scaledRoot binary64) scaled

@@ -70,7 +70,7 @@ pub fn normalise_significand(significand: u64, exponent: u64) -> NormalisedSigni
 
 // The whole number nearest to word / 2^11, a tie to the even one: what is added carries where the
 // 11 dropped bits are above a half, and at a half where the last bit kept is 1.
-pub fn round_significand(word: u64) -> u64
+fn round_significand(word: u64) -> u64
     ensures { λ r. ⌜ r ≡ closest word 2048 ⌝ }
 {
     let kept = word / 2048;
@@ -79,7 +79,7 @@ pub fn round_significand(word: u64) -> u64
 }
 
 // The double of a sign and the bits below it, which are no NaN's.
-pub fn pack(negative: bool, magnitude: u64) -> f64
+fn pack(negative: bool, magnitude: u64) -> f64
     requires { ⌜ magnitude ≤ 2047 * 2 ^ 52 ⌝ }
     ensures { λ r. ⌜ r ≡ ofBits binary64 (cond negative (2 ^ 63) 0 + magnitude) ⌝ }
 {

@@ -9,3 +9,4 @@ pub mod Cycle
 pub mod Least
 pub mod Appearance
 pub mod Slabs
+pub mod Equality

@@ -8,10 +8,10 @@ use lib.ListN.{length}
 use borrow.Author.Tests.{le-leb, lt-leb}
 use denote.Ref.{now}
 use Rattle.vector.specs.Direction.{admissible}
-use Rattle.icosahedron.specs.Slots.{slotsPerFace}
+use Rattle.icosahedron.specs.Slots.{frequencyFits, slotsPerFace}
+use Rattle.icosahedron.proofs.Frequency.{frequency-low, frequency-high, frequency-fits}
 use Rattle.icosahedron.proofs.Slots.{slots-per-face-le}
 use Rattle.analytic.specs.FaceChoice.{signsOf, outsideFirst, flagSum, candidate}
-use Rattle.analytic.specs.Location.{frequencyAccepted}
 use Rattle.analytic.proofs.FaceMapping.{candidate-below}
 use Rattle.analytic.proofs.Answers.{face-chosen, face-refused, refused-1, refused-8, refused-9, refused-10, accepted}
 use borrow.Author.Needs.{needs}
@@ -27,8 +27,8 @@ negated true h = absurd (false≢true h)
 negated false h = refl
 
 -- ---- the rows that have passed
-row-1 : (c : tie.Else2) → frequencyAccepted (c .before .before .before .args .frequency) ≡ true
-row-1 c = rw (le-leb _ _ (c .before .if1 .left), le-leb _ _ (c .if2 .left))
+row-1 : (c : tie.Else2) → frequencyFits (c .before .before .before .args .frequency) ≡ true
+row-1 c = frequency-fits _ (c .before .if1 .left) (c .if2 .left)
 
 row-8 : (c : tie.Else3) → let start = c .before .before .before .before .before .args in leb (20 * slotsPerFace (start .frequency)) (length (now (start .id-table))) ≡ true
 row-8 c = rw (← c .before .slots-per-face .ensures) (le-leb _ _ (c .if3 .left))
@@ -47,7 +47,7 @@ new-requires c κs = search needs
 returns : tie.Need-returns
 returns c =
     let s = c .before .before .before .args in
-    rw (c .new .ensures) (refused-1 (s .frequency) (now (s .id-table)) (s .direction) (rw (lt-leb _ _ (c .before .if1 .taken))))
+    rw (c .new .ensures) (refused-1 (s .frequency) (now (s .id-table)) (s .direction) (frequency-low _ (c .before .if1 .taken)))
 
 new-requires-2 : tie.Need-new-requires-2
 new-requires-2 c κs = search needs
@@ -55,7 +55,7 @@ new-requires-2 c κs = search needs
 returns-2 : tie.Need-returns-2
 returns-2 c =
     let s = c .before .before .before .before .args in
-    rw (c .new2 .ensures) (refused-1 (s .frequency) (now (s .id-table)) (s .direction) (rw (le-leb _ _ (c .before .before .if1 .left), lt-leb _ _ (c .before .if2 .taken))))
+    rw (c .new2 .ensures) (refused-1 (s .frequency) (now (s .id-table)) (s .direction) (frequency-high _ (c .before .if2 .taken)))
 
 slots-per-face-requires : tie.Need-slots-per-face-requires
 slots-per-face-requires c κs = search needs

@@ -108,8 +108,8 @@ returns-2 c =
     let s = start k .args in
     rw (← weights-of-scalars (s .p) (s .a) (s .b) (s .c) (d1 k) (d2 k) (d3 l) (d4 l) _ _ (is-d1 k) (is-d2 k) (is-d3 l) (is-d4 l) refl refl, c .new2 .ensures, l .before .before .before .if1 .left, c .before .if2 .taken)
 
-mul-add-requires : tie.Need-mul-add-requires
-mul-add-requires c κs = search needs
+product-at-most-requires : tie.Need-product-at-most-requires
+product-at-most-requires c κs = search needs
 
 new-requires-3 : tie.Need-new-requires-3
 new-requires-3 c κs = search needs
@@ -121,7 +121,7 @@ returns-3 c =
     let l = vc .before .before in
     let k = before-b l in
     let s = start k .args in
-    rw (← weights-of-scalars (s .p) (s .a) (s .b) (s .c) (d1 k) (d2 k) (d3 l) (d4 l) _ _ (is-d1 k) (is-d2 k) (is-d3 l) (is-d4 l) refl refl, c .new3 .ensures, l .before .before .before .if1 .left, vc .before .if2 .left, ← vc .mul-add .ensures, c .before .if3 .taken)
+    rw (← weights-of-scalars (s .p) (s .a) (s .b) (s .c) (d1 k) (d2 k) (d3 l) (d4 l) _ _ (is-d1 k) (is-d2 k) (is-d3 l) (is-d4 l) refl refl, c .new3 .ensures, l .before .before .before .if1 .left, vc .before .if2 .left, ← vc .product-at-most .ensures, c .before .if3 .taken)
 
 minus-requires-5 : tie.Need-minus-requires-5
 minus-requires-5 c κs = search needs
@@ -141,10 +141,10 @@ returns-4 c =
     let m = c .before .before in
     let vc = m .before .before .before .before in
     let l = before-c m in
-    rw (← scalars m, c .new4 .ensures, l .before .before .before .if1 .left, vc .before .if2 .left, ← vc .mul-add .ensures, m .before .before .before .if3 .left, c .before .if4 .taken)
+    rw (← scalars m, c .new4 .ensures, l .before .before .before .if1 .left, vc .before .if2 .left, ← vc .product-at-most .ensures, m .before .before .before .if3 .left, c .before .if4 .taken)
 
-mul-add-requires-2 : tie.Need-mul-add-requires-2
-mul-add-requires-2 c κs = search needs
+product-at-most-requires-2 : tie.Need-product-at-most-requires-2
+product-at-most-requires-2 c κs = search needs
 
 new-requires-5 : tie.Need-new-requires-5
 new-requires-5 c κs = search needs
@@ -156,10 +156,10 @@ returns-5 c =
     let m = vb .before .before in
     let vc = m .before .before .before .before in
     let l = before-c m in
-    rw (← scalars m, c .new5 .ensures, l .before .before .before .if1 .left, vc .before .if2 .left, ← vc .mul-add .ensures, m .before .before .before .if3 .left, vb .before .if4 .left, ← vb .mul-add2 .ensures, c .before .if5 .taken)
+    rw (← scalars m, c .new5 .ensures, l .before .before .before .if1 .left, vc .before .if2 .left, ← vc .product-at-most .ensures, m .before .before .before .if3 .left, vb .before .if4 .left, ← vb .product-at-most2 .ensures, c .before .if5 .taken)
 
-mul-add-requires-3 : tie.Need-mul-add-requires-3
-mul-add-requires-3 c κs = search needs
+product-at-most-requires-3 : tie.Need-product-at-most-requires-3
+product-at-most-requires-3 c κs = search needs
 
 new-requires-6 : tie.Need-new-requires-6
 new-requires-6 c κs = search needs
@@ -172,7 +172,16 @@ returns-6 c =
     let m = vb .before .before in
     let vc = m .before .before .before .before in
     let l = before-c m in
-    rw (← scalars m, c .new6 .ensures, l .before .before .before .if1 .left, vc .before .if2 .left, ← vc .mul-add .ensures, m .before .before .before .if3 .left, vb .before .if4 .left, ← vb .mul-add2 .ensures, va .before .if5 .left, ← va .mul-add3 .ensures, c .before .if6 .taken)
+    rw (← scalars m, c .new6 .ensures, l .before .before .before .if1 .left, vc .before .if2 .left, ← vc .product-at-most .ensures, m .before .before .before .if3 .left, vb .before .if4 .left, ← vb .product-at-most2 .ensures, va .before .if5 .left, ← va .product-at-most3 .ensures, c .before .if6 .taken)
+
+mul-add-requires : tie.Need-mul-add-requires
+mul-add-requires c κs = search needs
+
+mul-add-requires-2 : tie.Need-mul-add-requires-2
+mul-add-requires-2 c κs = search needs
+
+mul-add-requires-3 : tie.Need-mul-add-requires-3
+mul-add-requires-3 c κs = search needs
 
 new-requires-7 : tie.Need-new-requires-7
 new-requires-7 c κs = search needs
@@ -180,12 +189,13 @@ new-requires-7 c κs = search needs
 returns-7 : tie.Need-returns-7
 unfolding regionWeights
 returns-7 c =
-    let va = c .before .before in
+    let face = c .before in
+    let va = face .before .before .before .before in
     let vb = va .before .before in
     let m = vb .before .before in
     let vc = m .before .before .before .before in
     let l = before-c m in
-    rw (← scalars m, c .new7 .ensures, l .before .before .before .if1 .left, vc .before .if2 .left, ← vc .mul-add .ensures, m .before .before .before .if3 .left, vb .before .if4 .left, ← vb .mul-add2 .ensures, va .before .if5 .left, ← va .mul-add3 .ensures, c .before .if6 .left)
+    rw (← scalars m, c .new7 .ensures, l .before .before .before .if1 .left, vc .before .if2 .left, ← vc .product-at-most .ensures, m .before .before .before .if3 .left, vb .before .if4 .left, ← vb .product-at-most2 .ensures, va .before .if5 .left, ← va .product-at-most3 .ensures, face .before .before .before .if6 .left, ← face .before .before .mul-add .ensures, ← face .before .mul-add2 .ensures, ← face .mul-add3 .ensures)
 
 pub projected-barycentric-spec : {M : Type 1} → statement M
 projected-barycentric-spec =
@@ -203,7 +213,7 @@ projected-barycentric-spec =
     dot-requires-4
     new-requires-2
     returns-2
-    mul-add-requires
+    product-at-most-requires
     new-requires-3
     returns-3
     minus-requires-5
@@ -211,11 +221,14 @@ projected-barycentric-spec =
     dot-requires-6
     new-requires-4
     returns-4
-    mul-add-requires-2
+    product-at-most-requires-2
     new-requires-5
     returns-5
-    mul-add-requires-3
+    product-at-most-requires-3
     new-requires-6
     returns-6
+    mul-add-requires
+    mul-add-requires-2
+    mul-add-requires-3
     new-requires-7
     returns-7)

@@ -3,13 +3,13 @@ use Prim.Native.Nat.{_-_, _≤_, _<_}
 use native.Mathlib.Omega.{arith}
 use mathlib.Core.Path.{_≡_, refl, sym, _∙_}
 use lib.ListN.{length, drop}
-use Rattle.bracket_list.specs.LatticeList.{sameBytes}
+use Rattle.sequences.specs.Equality.{sameNumbers}
 use Rattle.bracket_list.proofs.Request.{same-lengths, same-next, same-differs, same-end}
 use Rattle.bracket_list.proofs.same_bytes.Statement.{statement}
 use Rattle.bracket_list.proofs.same_bytes.Tie as tie
 
 abbrev Inv-loop : tie.InvT-loop
-Inv-loop a b i₀ i = (i ≤ length a) × (sameBytes (drop i a) (drop i b) ≡ sameBytes a b)
+Inv-loop a b i₀ i = (i ≤ length a) × (sameNumbers (drop i a) (drop i b) ≡ sameNumbers a b)
 
 abbrev μ-loop : tie.MeasureT-loop
 μ-loop a b i₀ i = length a - i

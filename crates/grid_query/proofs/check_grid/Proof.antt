@@ -8,7 +8,7 @@ use mathlib.Core.Bool.{Bool, true, false, _&&_}
 use mathlib.Core.List.{List}
 use lib.Dec.{eqb}
 use lib.ListN.{length}
-use borrow.Author.Tests.{not-true, not-false, eq-eqb, ne-eqb}
+use borrow.Author.Tests.{not-true, not-false, eqb-true}
 use Rattle.mesh.specs.Mesh.{vertexCount}
 use Rattle.mesh.specs.Rows.{greatestCount, positionsFit}
 use Rattle.grid.specs.Cells.{sideOf}
@@ -31,21 +31,22 @@ fits c = sym (c .before .positions-fit .ensures) ∙ not-false _ (c .if1 .left)
 count-bound : (c : tie.After-vertex-count) → (1 ≤ c .vertex-count .result) × (c .vertex-count .result ≤ greatestCount)
 count-bound c = rw (c .vertex-count .ensures) (positions-count (start-of (c .before .before) .args .positions .now) (fits (c .before)))
 
-side-is : (c : tie.After-side) → c .side .result ≡ sideOf (vertexCount (start-of (c .before .before .before) .args .positions .now))
-side-is c = c .side .ensures ∙ ap sideOf (c .before .vertex-count .ensures)
+side-tested : (c : tie.After-side-is) → let a = start-of (c .before .before .before) .args in c .side-is .result ≡ eqb (a .side) (sideOf (vertexCount (a .positions .now)))
+side-tested c = c .side-is .ensures ∙ ap (λ (n : ℕ). eqb (start-of (c .before .before .before) .args .side) (sideOf n)) (c .before .vertex-count .ensures)
 
-side-small : (c : tie.After-side) → c .side .result ≤ 126
-side-small c = let b = count-bound (c .before) in rw (c .side .ensures) (side-bound (c .before .vertex-count .result) (b .0) (b .1) .1)
+side-small : (c : tie.Else2) → start-of (c .before .before .before .before) .args .side ≤ 126
+side-small c =
+    let k = c .before .before in
+    let b = count-bound k in
+    let same = eqb-true (start-of (k .before .before) .args .side) (sideOf (k .vertex-count .result)) (sym (c .before .side-is .ensures) ∙ not-false _ (c .if2 .left)) in
+    omega (arith, side-bound (k .vertex-count .result) (b .0) (b .1))
 
 square-small : (c : tie.Else2) → let side = start-of (c .before .before .before .before) .args .side in side * side ≤ 126 * 126
-square-small c =
-    let side = start-of (c .before .before .before .before) .args .side in
-    let small : side ≤ 126 = (let same = c .if2 .left in omega (arith, side-small (c .before))) in
-    mul-le-mul small small
+square-small c = mul-le-mul (side-small c) (side-small c)
 
 grid-fits : (c : tie.Else2) (cell-ids triples : List ℕ) → gridFits (lent (c .before .before .before .before) cell-ids triples) (start-of (c .before .before .before .before) .args .positions .now) ≡ true
 unfolding gridFits
-grid-fits c cell-ids triples = rw (fits (c .before .before .before), eq-eqb _ _ (c .if2 .left ∙ side-is (c .before)))
+grid-fits c cell-ids triples = rw (fits (c .before .before .before), sym (side-tested (c .before)) ∙ not-false _ (c .if2 .left))
 
 starts-fit : (c : tie.Else2) (cell-ids triples : List ℕ) (found : Bool)
     → (let a = start-of (c .before .before .before .before) .args in
@@ -67,8 +68,8 @@ returns c = λ cell-ids triples. rw (c .new .ensures, sym (c .before .before .po
 vertex-count-requires : tie.Need-vertex-count-requires
 vertex-count-requires c κs = search needs
 
-side-requires : tie.Need-side-requires
-side-requires c κs = count-bound c
+side-is-requires : tie.Need-side-is-requires
+side-is-requires c κs = count-bound c
 
 new-requires-2 : tie.Need-new-requires-2
 new-requires-2 c κs = search needs
@@ -77,7 +78,7 @@ returns-2 : tie.Need-returns-2
 unfolding gridFits
 returns-2 c = λ cell-ids triples.
     let k = c .before .before in
-    rw (c .new2 .ensures, fits (k .before .before), ne-eqb _ _ (λ e. c .before .if2 .taken (e ∙ sym (side-is k))))
+    rw (c .new2 .ensures, fits (k .before .before), sym (side-tested k) ∙ not-true _ (c .before .if2 .taken))
 
 mul-if3 : tie.Need-mul-if3
 mul-if3 c = omega (arith, square-small c)
@@ -125,7 +126,7 @@ check-grid-spec =
     new-requires
     returns
     vertex-count-requires
-    side-requires
+    side-is-requires
     new-requires-2
     returns-2
     mul-if3

@@ -8,7 +8,7 @@ use native.Mathlib.Omega.{arith}
 use lib.Dec.{le→leb}
 use lib.Ieee.{ofBits, inFloat, lt, toUnsigned}
 use Rattle.grid.specs.CubeFace.{zeroFloat}
-use Rattle.grid.specs.Cells.{whole}
+use Rattle.binary64.specs.Convert.{whole}
 use Rattle.grid_query.specs.Cell.{clampedCell}
 use Rattle.grid_query.proofs.Clamp.{AtMost, clamp-at-most, above-minus-one, below-word, not-positive-converts}
 use Rattle.grid_query.proofs.clamped_cell.Statement.{statement}

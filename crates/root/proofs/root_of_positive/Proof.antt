@@ -6,7 +6,7 @@ use borrow.Author.Needs.{needs}
 use lib.Ieee.{binary64}
 use lib.Ieee.Positive.{positive-finite}
 use Rattle.root.specs.Root.{scaledRoot}
-use Rattle.root.proofs.HalfExponent.{even-exponent, odd-exponent}
+use Rattle.root.proofs.HalfExponent.{shifted-ge, half-exponent}
 use Rattle.root.proofs.Operands.{positive-root, significand-positive}
 use Rattle.root.proofs.root_of_positive.Statement.{statement}
 use Rattle.root.proofs.root_of_positive.Tie as tie
@@ -22,29 +22,22 @@ normalise-significand-requires c κs =
     let u = c .unpack in
     (significand-positive (c .before .args .x) (u .result .negative) (u .result .significand) (u .result .exponent) (c .before .pre) (u .ensures .0), u .ensures .1, u .ensures .2)
 
-root-of-word-requires : tie.Need-root-of-word-requires
-root-of-word-requires c κs = search needs
+shr-root-of-word : tie.Need-shr-root-of-word
+shr-root-of-word c = search needs
 
 add-root-of-word : tie.Need-add-root-of-word
 add-root-of-word c = search needs
 
-root-of-word-requires-2 : tie.Need-root-of-word-requires-2
-root-of-word-requires-2 c κs = search needs
+root-of-word-requires : tie.Need-root-of-word-requires
+root-of-word-requires c κs =
+    (shifted-ge _ _ (c .before .before .before .normalise-significand .ensures .1) (omega arith), omega arith)
 
 returns : tie.Need-returns
 returns c =
     let n = c .before .before .before .before in
     let u = n .before in
     c .root-of-word .ensures
-    ∙ ap (scaledRoot binary64) (even-exponent _ _ _ (n .normalise-significand .ensures .0) (c .before .before .if1 .taken))
-    ∙ sym (positive-root (u .before .args .x) (u .unpack .result .negative) _ (u .before .pre) (u .unpack .ensures .0))
-
-returns-2 : tie.Need-returns-2
-returns-2 c =
-    let n = c .before .before .before .before .before in
-    let u = n .before in
-    c .root-of-word2 .ensures
-    ∙ ap (scaledRoot binary64) (odd-exponent _ _ _ (n .normalise-significand .ensures .0) (even-word _ (n .normalise-significand .ensures .2)) (c .before .before .before .if1 .left))
+    ∙ ap (scaledRoot binary64) (half-exponent _ _ _ (n .normalise-significand .ensures .0) (even-word _ (n .normalise-significand .ensures .2)))
     ∙ sym (positive-root (u .before .args .x) (u .unpack .result .negative) _ (u .before .pre) (u .unpack .ensures .0))
 
 pub root-of-positive-spec : {M : Type 1} → statement M
@@ -53,8 +46,7 @@ root-of-positive-spec =
     (tie.spec
     unpack-requires
     normalise-significand-requires
-    root-of-word-requires
+    shr-root-of-word
     add-root-of-word
-    root-of-word-requires-2
-    returns
-    returns-2)
+    root-of-word-requires
+    returns)

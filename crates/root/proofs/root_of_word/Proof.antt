@@ -4,35 +4,50 @@ use mathlib.Core.Logic.{inl, inr, ⊎-elim}
 use Prim.Native.Nat.{ℕ, _+_, _*_, _^_, _≤_, _<_}
 use native.Mathlib.Omega.{arith}
 use borrow.Author.Needs.{needs}
-use Rattle.root.proofs.StickyRoot.{StickyBit, after-54, full-significand, word-rounds}
+use Rattle.root.proofs.StickyRoot.{StickyBit, sticky-lt, full-significand, significand-lt, word-rounds}
 use Rattle.root.proofs.root_of_word.Statement.{statement}
 use Rattle.root.proofs.root_of_word.Tie as tie
 
--- the digits and the remainder are the radicand's
-state : (c : tie.After-next-digits) → c .next-digits .result .significand * c .next-digits .result .significand + c .next-digits .result .remainder ≡ c .before .args .radicand * 2 ^ 44
-state c = after-54 _ _ _ _ (search needs) (c .next-digits .ensures .1)
+-- the 54 digits of a significand
+fits : (c : tie.After-root-digits) → c .root-digits .result .significand < 2 ^ 54
+fits c = significand-lt _ _ _ (c .root-digits .ensures .1) (search needs)
 
-above-zero : (q s : ℕ) → 2 ^ 53 ≤ q → 0 < q * 2 ^ 64 + s
-above-zero q s h = omega arith
+bit : (c : tie.Joined1) → StickyBit (c .before .before .root-digits .result .remainder) (c .if1 .sticky)
+bit c = ⊎-elim (λ w. inl (w .0 .taken, w .1)) (λ w. inr (w .0 .left, w .1)) (c .if1 .came)
 
-next-digits-requires : tie.Need-next-digits-requires
-next-digits-requires c κs = search needs
+root-digits-requires : tie.Need-root-digits-requires
+root-digits-requires c κs = search needs
 
-add-round-and-pack : tie.Need-add-round-and-pack
-add-round-and-pack c = search needs
+mul-round-and-pack-word : tie.Need-mul-round-and-pack-word
+mul-round-and-pack-word c = omega (arith, fits (c .before .before .before))
 
-round-and-pack-requires : tie.Need-round-and-pack-requires
-round-and-pack-requires c κs =
-    let a = c .before .before in
-    (above-zero _ _ (full-significand _ _ _ (a .next-digits .ensures .0) (state a) (a .before .pre .0)), search needs)
+add-round-and-pack-word : tie.Need-add-round-and-pack-word
+add-round-and-pack-word c =
+    let j = c .before .before in
+    omega (arith, fits (j .before .before), sticky-lt _ _ (bit j))
+
+add-round-and-pack-word-2 : tie.Need-add-round-and-pack-word-2
+add-round-and-pack-word-2 c = search needs
+
+round-and-pack-word-requires : tie.Need-round-and-pack-word-requires
+round-and-pack-word-requires c κs =
+    let a = c .before .before .before .before in
+    omega (arith, full-significand _ _ _ (a .root-digits .ensures .0) (a .root-digits .ensures .1) (a .before .pre .0))
 
 returns : tie.Need-returns
 returns c =
-    let j = c .before in
+    let j = c .before .before .before in
     let a = j .before .before in
-    let bit : StickyBit (a .next-digits .result .remainder) (j .if1 .sticky) = ⊎-elim (λ w. inl (w .0 .taken, w .1)) (λ w. inr (w .0 .left, w .1)) (j .if1 .came) in
-    c .round-and-pack .ensures ∙ word-rounds (a .next-digits .result .significand) (a .next-digits .result .remainder) (a .before .args .radicand) (a .before .args .half) (j .if1 .sticky) (a .next-digits .ensures .0) (state a) (a .before .pre .0) bit
+    c .round-and-pack-word .ensures
+    ∙ word-rounds (a .root-digits .result .significand) (a .root-digits .result .remainder) (a .before .args .radicand) (a .before .args .half) (j .if1 .sticky) (a .root-digits .ensures .0) (a .root-digits .ensures .1) (a .before .pre .0) (bit j)
 
 pub root-of-word-spec : {M : Type 1} → statement M
 root-of-word-spec =
-    tie.close (tie.spec next-digits-requires add-round-and-pack round-and-pack-requires returns)
+    tie.close
+    (tie.spec
+    root-digits-requires
+    mul-round-and-pack-word
+    add-round-and-pack-word
+    add-round-and-pack-word-2
+    round-and-pack-word-requires
+    returns)

@@ -1,0 +1,229 @@
+-- The side of a grid in whole numbers: for every count from 1 to 65,536 it is the least g, 2 at least, with 6 * count ≤ 25 * g². Each of its steps keeps the order, and at both ends of each side's counts it is worked out.
+-- Assumes nothing.
+use Prim.Native.Nat.{ℕ, zero, suc, _+_, _-_, _*_, _/_, _^_, _≤_, _<_}
+use native.Mathlib.Nat.{le-trans, le-of-eq, mul-comm, mul-assoc, mul-left-comm, mul-right-comm, mul-le-mul, mul-le-mul-right}
+use native.Mathlib.Omega.{arith}
+use mathlib.Core.Path.{_≡_, refl, sym, subst}
+use mathlib.Core.Logic.{inl, inr}
+use mathlib.Core.Bool.{Bool, true, false, not, _&&_, _||_, cond}
+use lib.Dec.{T, leb, ltb, eqb}
+use lib.Pow.{pow-pos}
+use lib.Ieee.{Float, nan, inf, fin, binary64, low, size, up, down, le, round, mul, div, ofInt, toUnsigned, fits}
+use lib.Ieee.Nearest.{div-mono}
+use lib.Ieee.Order.{round-mono}
+use lib.Ieee.Fits.{down-pos, div-fits, mul-fits}
+use lib.Ieee.Positive.{num, den, den-pos, positive, positive-finite, own-value, le→cross, le-trans-positive, mul-mono}
+use borrow.Author.Tests.{eqb-true, eqb-false, eq-eqb, ne-eqb, lt-ltb, le-ltb}
+use Rattle.binary64.specs.Integral.{ceilOf, roundToIntegral}
+use Rattle.binary64.proofs.Integral.{integral-exact, ceil-not-below, ceil-least}
+use Rattle.binary64.proofs.Tests.{Tested, tested}
+use Rattle.sequences.specs.Range.{allBelow}
+use Rattle.sequences.proofs.Range.{and-split, all-below-at}
+use Rattle.root.specs.Root.{squareRoot, scaledRoot, rootInHalves, integerRoot}
+use Rattle.root.proofs.IntegerRoot.{integer-root}
+use Rattle.mesh.specs.Rows.{greatestCount}
+use Rattle.binary64.specs.Convert.{whole}
+use Rattle.grid.specs.Cells.{sideFactor, sideOf}
+use Rattle.grid.proofs.SideBound.{whole-cross, quotient, quotient-is, quotient-positive, quotient-above, quotient-below, root-at-most, root-at-least, root-positive, across-positive, ceil-positive, finite-number, le-self, side-bound}
+
+-- ---- the root keeps the order
+at-most : (b : Bool) (r : ℕ) → cond b (2 * r) (2 * r + 1) ≤ 2 * r + 1
+at-most true r = omega arith
+at-most false r = omega arith
+
+at-least : (b : Bool) (r : ℕ) → 2 * r ≤ cond b (2 * r) (2 * r + 1)
+at-least true r = omega arith
+at-least false r = omega arith
+
+-- one root for both: where the lesser has something left over, the greater has too
+same-root : (n k r : ℕ) → n ≤ k → r * r ≤ n → rootInHalves n r ≤ rootInHalves k r
+same-root n k r h a = go (eqb (r * r) n) (eqb (r * r) k) refl refl
+  where
+    go : (b c : Bool) → eqb (r * r) n ≡ b → eqb (r * r) k ≡ c → cond b (2 * r) (2 * r + 1) ≤ cond c (2 * r) (2 * r + 1)
+    go true c e f = at-least c r
+    go false false e f = omega arith
+    go false true e f = absurd (eqb-false (r * r) n e (omega (arith, eqb-true (r * r) k f)))
+
+halves-grow : (n k r q : ℕ) → n ≤ k → r * r ≤ n → k < (q + 1) * (q + 1) → rootInHalves n r ≤ rootInHalves k q
+halves-grow n k r q h a d = go (tested (r + 1) q) (tested r q)
+  where
+    go : Tested (r + 1) q → Tested r q → rootInHalves n r ≤ rootInHalves k q
+    go (inl less) t = le-trans (at-most (eqb (r * r) n) r) (le-trans (let z : 2 * r + 1 ≤ 2 * q = omega (arith, less .0) in z) (at-least (eqb (q * q) k) q))
+    go (inr more) (inr above) =
+        let s : q + 1 ≤ r = omega (arith, above .0) in
+        let beyond : (q + 1) * (q + 1) ≤ r * r = mul-le-mul s s in
+        absurd (let z : ⊥ = omega arith in z)
+    go (inr more) (inl level) =
+        let same : q ≡ r = omega (arith, more .0, level .0) in
+        subst (λ (z : ℕ). rootInHalves n r ≤ rootInHalves k z) (sym same) (same-root n k r h a)
+
+scaled-grows : (n k : ℕ) → n ≤ k → T (le (scaledRoot binary64 n) (scaledRoot binary64 k))
+unfolding scaledRoot
+scaled-grows n k h =
+    let l = 2 ^ (low binary64 + 1) in
+    let r = integer-root n in
+    let q = integer-root k in
+    round-mono binary64 (rootInHalves n (integerRoot (size n) n)) l (rootInHalves k (integerRoot (size k) k)) l (pow-pos (low binary64 + 1)) (pow-pos (low binary64 + 1))
+    (mul-le-mul-right l (halves-grow n k (integerRoot (size n) n) (integerRoot (size k) k) h (r .0) (q .1)))
+
+root-grows : (x y : Float) → T (positive x) → T (positive y) → T (le x y) → T (le (squareRoot binary64 x) (squareRoot binary64 y))
+unfolding squareRoot
+root-grows nan y p q h = absurd p
+root-grows (inf s) y p q h = absurd p
+root-grows (fin true m e) y p q h = absurd p
+root-grows (fin false zero e) y p q h = absurd p
+root-grows (fin false (suc m) e) nan p q h = absurd q
+root-grows (fin false (suc m) e) (inf s) p q h = absurd q
+root-grows (fin false (suc m) e) (fin true n d) p q h = absurd q
+root-grows (fin false (suc m) e) (fin false zero d) p q h = absurd q
+root-grows (fin false (suc m) e) (fin false (suc n) d) p q h =
+    let u = 2 ^ (low binary64 + low binary64) in
+    scaled-grows (suc m * up e * u / down e) (suc n * up d * u / down d)
+    (div-mono (suc m * up e * u) (down e) (suc n * up d * u) (down d) (down-pos e) (down-pos d)
+    (le-trans (le-of-eq (mul-right-comm (suc m * up e) u (down d))) (le-trans (mul-le-mul-right u (le→cross (fin false (suc m) e) (fin false (suc n) d) p q h)) (le-of-eq (mul-right-comm (suc n * up d) (down e) u)))))
+
+-- ---- the ceiling and the conversion keep it
+ceil-grows : (x y : Float) → T (fits binary64 x) → T (fits binary64 y) → T (positive x) → T (positive y) → T (positive (ceilOf y)) → T (le x y) → T (le (ceilOf x) (ceilOf y))
+ceil-grows x y fx fy px py pc h =
+    ceil-least x (ceilOf y) false _ fx (integral-exact _ y false (num y) (den y) fy (den-pos y) (own-value y py))
+    (le-trans-positive x y (ceilOf y) px py pc h (ceil-not-below y fy (subst (λ (b : Bool). T (not b)) (sym (finite-number y (positive-finite y py))) tt)))
+
+conversion-grows : (x y : Float) → T (positive x) → T (positive y) → T (le x y) → toUnsigned 64 x ≤ toUnsigned 64 y
+unfolding toUnsigned
+conversion-grows nan y p q h = absurd p
+conversion-grows (inf s) y p q h = absurd p
+conversion-grows (fin true m e) y p q h = absurd p
+conversion-grows (fin false m e) nan p q h = absurd q
+conversion-grows (fin false m e) (inf s) p q h = absurd q
+conversion-grows (fin false m e) (fin true n d) p q h = absurd q
+conversion-grows (fin false m e) (fin false n d) p q h = let z = div-mono (m * up e) (down e) (n * up d) (down d) (down-pos e) (down-pos d) (le→cross (fin false m e) (fin false n d) p q h) in omega arith
+
+-- a / c is n and b / d is k
+crossed : (n k a c b d : ℕ) → n ≤ k → a ≡ n * c → b ≡ k * d → a * (3 * 2 * d) ≤ b * (3 * 2 * c)
+crossed n k a c b d h e f =
+    let z : n * (c * d * 6) ≤ k * (c * d * 6) = mul-le-mul-right (c * d * 6) h in
+    rw (e, f) (le-trans (le-of-eq (let x : n * c * (3 * 2 * d) ≡ n * (c * d * 6) = simp (mul-assoc, mul-comm, mul-left-comm) (omega arith) in x)) (le-trans z (le-of-eq (let x : k * (c * d * 6) ≡ k * d * (3 * 2 * c) = simp (mul-assoc, mul-comm, mul-left-comm) (omega arith) in x))))
+
+module _ (n k : ℕ) (some : 1 ≤ n) (grown : n ≤ k) (few : k ≤ greatestCount) where
+  quotient-grows : T (le (quotient n some (le-trans grown few)) (quotient k (le-trans some grown) few))
+  quotient-grows =
+      let w = whole n in
+      let v = whole k in
+      let cw = whole-cross n some (le-trans grown few) in
+      let cv = whole-cross k (le-trans some grown) few in
+      subst (λ (z : Float). T (le z (quotient k (le-trans some grown) few))) (sym (quotient-is n some (le-trans grown few)))
+      (subst (λ (z : Float). T (le (round binary64 false (num w * 1) (3 * 2 * den w)) z)) (sym (quotient-is k (le-trans some grown) few))
+      (round-mono binary64 (num w * 1) (3 * 2 * den w) (num v * 1) (3 * 2 * den v) (omega (arith, den-pos w)) (omega (arith, den-pos v)) (crossed n k (num w * 1) (den w) (num v * 1) (den v) grown cw cv)))
+
+  pub side-grows : sideOf n ≤ sideOf k
+  unfolding sideOf
+  side-grows =
+      let fw = le-trans grown few in
+      let sv = le-trans some grown in
+      let x = quotient n some fw in
+      let y = quotient k sv few in
+      let fx = div-fits binary64 (whole n) (whole 6) in
+      let fy = div-fits binary64 (whole k) (whole 6) in
+      let px = quotient-positive n some fw in
+      let py = quotient-positive k sv few in
+      let rx = root-positive x fx px (quotient-above n some fw) (quotient-below n some fw) in
+      let ry = root-positive y fy py (quotient-above k sv few) (quotient-below k sv few) in
+      let lx = root-at-least x fx px (quotient-above n some fw) (quotient-below n some fw) in
+      let ly = root-at-least y fy py (quotient-above k sv few) (quotient-below k sv few) in
+      let mx = root-at-most x fx px (quotient-above n some fw) (quotient-below n some fw) in
+      let my = root-at-most y fy py (quotient-above k sv few) (quotient-below k sv few) in
+      let a = mul binary64 (squareRoot binary64 x) sideFactor in
+      let b = mul binary64 (squareRoot binary64 y) sideFactor in
+      let ab = mul-mono binary64 (squareRoot binary64 x) (squareRoot binary64 y) sideFactor sideFactor rx ry tt tt (root-grows x y px py quotient-grows) (le-self sideFactor tt) in
+      let pa = across-positive (squareRoot binary64 x) rx lx mx in
+      let pb = across-positive (squareRoot binary64 y) ry ly my in
+      let ca = ceil-positive (squareRoot binary64 x) rx lx mx in
+      let cb = ceil-positive (squareRoot binary64 y) ry ly my in
+      let c = conversion-grows (ceilOf a) (ceilOf b) ca cb (ceil-grows a b (mul-fits binary64 (squareRoot binary64 x) sideFactor) (mul-fits binary64 (squareRoot binary64 y) sideFactor) pa pb cb ab) in
+      omega arith
+
+-- ---- the ends
+-- the last count of the side g
+abbrev lastCount : ℕ → ℕ
+lastCount g = 25 * (g * g) / 6
+
+abbrev endsAt : ℕ → Bool
+endsAt g = eqb (sideOf (lastCount g)) g && eqb (sideOf (lastCount g + 1)) (g + 1)
+
+-- the sides from 2 to 125, in parts: a single term takes only so many steps
+part-1 : allBelow (λ i. endsAt (i + 2)) 31 ≡ true
+unfolding allBelow sideOf ofInt div mul toUnsigned roundToIntegral squareRoot
+part-1 = refl
+
+part-2 : allBelow (λ i. endsAt (i + 33)) 31 ≡ true
+unfolding allBelow sideOf ofInt div mul toUnsigned roundToIntegral squareRoot
+part-2 = refl
+
+part-3 : allBelow (λ i. endsAt (i + 64)) 31 ≡ true
+unfolding allBelow sideOf ofInt div mul toUnsigned roundToIntegral squareRoot
+part-3 = refl
+
+part-4 : allBelow (λ i. endsAt (i + 95)) 31 ≡ true
+unfolding allBelow sideOf ofInt div mul toUnsigned roundToIntegral squareRoot
+part-4 = refl
+
+in-part : (first g : ℕ) → allBelow (λ i. endsAt (i + first)) 31 ≡ true → first ≤ g → g < first + 31 → endsAt g ≡ true
+in-part first g h l m = subst (λ (k : ℕ). endsAt k ≡ true) (let z : g - first + first ≡ g = omega arith in z) (all-below-at (λ i. endsAt (i + first)) 31 (g - first) h (omega arith))
+
+ends : (g : ℕ) → 2 ≤ g → g ≤ 125 → endsAt g ≡ true
+ends g l m = go (tested 33 g) (tested 64 g) (tested 95 g)
+  where
+    go : Tested 33 g → Tested 64 g → Tested 95 g → endsAt g ≡ true
+    go (inr a) b c = in-part 2 g part-1 l (omega (arith, a .0))
+    go (inl a) (inr b) c = in-part 33 g part-2 (a .0) (omega (arith, b .0))
+    go (inl a) (inl b) (inr c) = in-part 64 g part-3 (b .0) (omega (arith, c .0))
+    go (inl a) (inl b) (inl c) = in-part 95 g part-4 (c .0) (omega arith)
+
+last-few : (g : ℕ) → g ≤ 125 → lastCount g + 1 ≤ greatestCount
+last-few g h = let s : g * g ≤ 125 * 125 = mul-le-mul h h in omega arith
+
+last-some : (g : ℕ) → 2 ≤ g → 1 ≤ lastCount g
+last-some g h = let s : 2 * 2 ≤ g * g = mul-le-mul h h in omega arith
+
+module _ (n g : ℕ) (some : 1 ≤ n) (few : n ≤ greatestCount) (lower : 2 ≤ g) (upper : g ≤ 125) where
+  at-most-side : 6 * n ≤ 25 * (g * g) → sideOf n ≤ g
+  at-most-side h =
+      let e = eqb-true (sideOf (lastCount g)) g (and-split (eqb (sideOf (lastCount g)) g) (eqb (sideOf (lastCount g + 1)) (g + 1)) (ends g lower upper) .0) in
+      let z = side-grows n (lastCount g) some (omega arith) (omega (arith, last-few g upper)) in
+      omega arith
+
+  above-side : 25 * (g * g) < 6 * n → g + 1 ≤ sideOf n
+  above-side h =
+      let e = eqb-true (sideOf (lastCount g + 1)) (g + 1) (and-split (eqb (sideOf (lastCount g)) g) (eqb (sideOf (lastCount g + 1)) (g + 1)) (ends g lower upper) .1) in
+      let z = side-grows (lastCount g + 1) n (omega arith) (omega arith) few in
+      omega arith
+
+-- The side is the least g, 2 at least, with 6 * n ≤ 25 * g².
+pub side-least : (n g : ℕ) → 1 ≤ n → n ≤ greatestCount → 2 ≤ g → g ≤ 126 → (leb (6 * n) (25 * (g * g)) && (eqb g 2 || ltb (25 * ((g - 1) * (g - 1))) (6 * n))) ≡ eqb g (sideOf n)
+side-least n g some few lower upper = go (tested (6 * n) (25 * (g * g))) (tested g 2) (tested (6 * n) (25 * ((g - 1) * (g - 1))))
+  where
+    bounds : (2 ≤ sideOf n) × (sideOf n ≤ 126)
+    bounds = side-bound n some few
+
+    at-most : 6 * n ≤ 25 * (g * g) → Tested g 125 → sideOf n ≤ g
+    at-most h (inl l) = at-most-side n g some few lower (l .0) h
+    at-most h (inr l) = omega (arith, l .0, bounds .1)
+
+    above : 25 * (g * g) < 6 * n → Tested g 125 → g + 1 ≤ sideOf n
+    above h (inl l) = above-side n g some few lower (l .0) h
+    above h (inr l) =
+        let last : g ≡ 126 = omega (arith, l .0) in
+        absurd (let z : ⊥ = omega (arith, (rw last at h)) in z)
+
+    go : Tested (6 * n) (25 * (g * g)) → Tested g 2 → Tested (6 * n) (25 * ((g - 1) * (g - 1)))
+        → (leb (6 * n) (25 * (g * g)) && (eqb g 2 || ltb (25 * ((g - 1) * (g - 1))) (6 * n))) ≡ eqb g (sideOf n)
+    go (inr more) t u = rw (more .1) (sym (ne-eqb g (sideOf n) (λ e. absurd (let z : ⊥ = omega (arith, above (more .0) (tested g 125)) in z))))
+    go (inl less) (inl two) u =
+        let is : g ≡ 2 = omega (arith, two .0) in
+        rw (less .1, eq-eqb g 2 is) (sym (eq-eqb g (sideOf n) (omega (arith, at-most (less .0) (tested g 125), bounds .0))))
+    go (inl less) (inr more) (inr above-last) =
+        let before = above-side n (g - 1) some few (omega (arith, more .0)) (omega arith) (above-last .0) in
+        rw (less .1, ne-eqb g 2 (λ e. absurd (let z : ⊥ = omega (arith, more .0) in z)), lt-ltb (25 * ((g - 1) * (g - 1))) (6 * n) (above-last .0)) (sym (eq-eqb g (sideOf n) (omega (arith, at-most (less .0) (tested g 125), before, more .0))))
+    go (inl less) (inr more) (inl in-last) =
+        let before = at-most-side n (g - 1) some few (omega (arith, more .0)) (omega arith) (in-last .0) in
+        rw (less .1, ne-eqb g 2 (λ e. absurd (let z : ⊥ = omega (arith, more .0) in z)), le-ltb (25 * ((g - 1) * (g - 1))) (6 * n) (in-last .0)) (sym (ne-eqb g (sideOf n) (λ e. absurd (let z : ⊥ = omega (arith, before, more .0) in z))))
