@@ -1,0 +1,238 @@
+// Both locators on the lattice of a frequency.
+use crate::places::F64_BEFORE;
+use crate::places::U16_BEFORE;
+use crate::places::U32_BEFORE;
+use crate::queries;
+use crate::report;
+use crate::report::Tally;
+use c_api::BuildAnswer;
+use records::Cursor;
+
+// A direction; the answers of both locators.
+fn direction(
+    text: &[u8],
+    start: usize,
+    frequency: u32,
+    ids: &[u16],
+    side: u32,
+    positions: &[f64],
+    cell_starts: &[u32],
+    cell_ids: &[u16],
+    triangle_starts: &[u32],
+    triples: &[u16],
+) -> Cursor {
+    let read = queries::read_direction(text, Cursor::new(start));
+    let v = read.direction;
+    let behind = queries::analytic_answers(text, read.cursor(), frequency, ids, v);
+    queries::grid_answers(
+        text,
+        behind,
+        positions,
+        side,
+        cell_starts,
+        cell_ids,
+        triangle_starts,
+        triples,
+        v,
+    )
+}
+
+// The first record ends with the grid's refusal and its side. Each record behind it is a direction.
+fn replay_records(
+    text: &[u8],
+    cursor: Cursor,
+    frequency: u32,
+    ids: &[u16],
+    answer: BuildAnswer,
+    positions: &[f64],
+    cell_starts: &[u32],
+    cell_ids: &[u16],
+    triangle_starts: &[u32],
+    triples: &[u16],
+) -> Tally {
+    let side = answer.side;
+    let answered = records::expect_u32(text, cursor, answer.refusal);
+    let first = records::expect_u32(text, answered, side);
+    let mut end = records::line_end(text, 0);
+    let mut tally = Tally::none().counted(first.good & (first.at == end));
+    while end < text.len() {
+        let start = end + 1;
+        if start == text.len() {
+            break;
+        }
+        end = records::line_end(text, start);
+        let last = direction(
+            text,
+            start,
+            frequency,
+            ids,
+            side,
+            positions,
+            cell_starts,
+            cell_ids,
+            triangle_starts,
+            triples,
+        );
+        tally = tally.counted(last.good & (last.at == end));
+    }
+    tally
+}
+
+fn on_grid(
+    text: &[u8],
+    cursor: Cursor,
+    frequency: u32,
+    ids: &[u16],
+    positions: &[f64],
+    starts: &[u32],
+    entries: &[u16],
+    cell_starts: &mut [u32],
+    cell_ids: &mut [u16],
+    triangle_starts: &mut [u32],
+    triples: &mut [u16],
+) -> Tally {
+    let answer = c_api::koshirga_build_grid(
+        positions,
+        starts,
+        entries,
+        cell_starts,
+        cell_ids,
+        triangle_starts,
+        triples,
+    );
+    replay_records(
+        text,
+        cursor,
+        frequency,
+        ids,
+        answer,
+        positions,
+        cell_starts,
+        cell_ids,
+        triangle_starts,
+        triples,
+    )
+}
+
+// Then the lengths of the grid's slices.
+fn cut_grid(
+    text: &[u8],
+    cursor: Cursor,
+    frequency: u32,
+    ids: &[u16],
+    positions: &[f64],
+    starts: &[u32],
+    entries: &[u16],
+    cell_starts: &mut [u32],
+    cell_ids: &mut [u16],
+    triangle_starts: &mut [u32],
+    triples: &mut [u16],
+) -> Tally {
+    let a = records::take_length(text, cursor, cell_starts.len());
+    let b = records::take_length(text, a.cursor(), cell_ids.len());
+    let c = records::take_length(text, b.cursor(), triangle_starts.len());
+    let d = records::take_length(text, c.cursor(), triples.len());
+    let a_end = a.places;
+    let b_end = b.places;
+    let c_end = c.places;
+    let d_end = d.places;
+    on_grid(
+        text,
+        d.cursor(),
+        frequency,
+        ids,
+        positions,
+        starts,
+        entries,
+        &mut cell_starts[..a_end],
+        &mut cell_ids[..b_end],
+        &mut triangle_starts[..c_end],
+        &mut triples[..d_end],
+    )
+}
+
+fn with_grid(
+    text: &[u8],
+    cursor: Cursor,
+    frequency: u32,
+    ids: &[u16],
+    positions: &[f64],
+    starts: &[u32],
+    entries: &[u16],
+) -> Tally {
+    let mut cell_starts = [U32_BEFORE; 5767];
+    let mut cell_ids = [U16_BEFORE; 60000];
+    let mut triangle_starts = [U32_BEFORE; 4003];
+    let mut triples = [U16_BEFORE; 72000];
+    cut_grid(
+        text,
+        cursor,
+        frequency,
+        ids,
+        positions,
+        starts,
+        entries,
+        &mut cell_starts,
+        &mut cell_ids,
+        &mut triangle_starts,
+        &mut triples,
+    )
+}
+
+// Then the lattice's refusal.
+fn on_lattice(
+    text: &[u8],
+    cursor: Cursor,
+    frequency: u32,
+    positions: &mut [f64],
+    starts: &mut [u32],
+    entries: &mut [u16],
+    ids: &mut [u16],
+) -> Tally {
+    let refusal = c_api::koshirga_lattice(frequency, positions, starts, entries, ids);
+    let answered = records::expect_u32(text, cursor, refusal);
+    with_grid(text, answered, frequency, ids, positions, starts, entries)
+}
+
+// The first record begins with n and the lengths of the lattice's slices.
+fn cut_lattice(
+    text: &[u8],
+    positions: &mut [f64],
+    starts: &mut [u32],
+    entries: &mut [u16],
+    ids: &mut [u16],
+) -> Tally {
+    let frequency = records::take_u32(text, Cursor::new(0));
+    let p = records::take_length(text, frequency.cursor(), positions.len());
+    let s = records::take_length(text, p.cursor(), starts.len());
+    let e = records::take_length(text, s.cursor(), entries.len());
+    let i = records::take_length(text, e.cursor(), ids.len());
+    let p_end = p.places;
+    let s_end = s.places;
+    let e_end = e.places;
+    let i_end = i.places;
+    on_lattice(
+        text,
+        i.cursor(),
+        frequency.value,
+        &mut positions[..p_end],
+        &mut starts[..s_end],
+        &mut entries[..e_end],
+        &mut ids[..i_end],
+    )
+}
+
+fn with_lattice(text: &[u8]) -> Tally {
+    let mut positions = [F64_BEFORE; 12006];
+    let mut starts = [U32_BEFORE; 4003];
+    let mut entries = [U16_BEFORE; 24000];
+    let mut ids = [U16_BEFORE; 4620];
+    cut_lattice(text, &mut positions, &mut starts, &mut entries, &mut ids)
+}
+
+pub fn replay(name: &[u8]) {
+    let mut text = [0u8; 524288];
+    let size = report::read_file(name, &mut text);
+    let tally = with_lattice(&text[..size]);
+    report::print(name, tally);
+}

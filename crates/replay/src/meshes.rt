@@ -1,0 +1,231 @@
+// Any meshes, also such as some row refuses: walk and grid.
+use crate::places::F64_BEFORE;
+use crate::places::U16_BEFORE;
+use crate::places::U32_BEFORE;
+use c_api::BuildAnswer;
+use records::Cursor;
+
+// The refusal, the entries read, and both slices after the call.
+fn replay_walk(
+    text: &[u8],
+    cursor: Cursor,
+    hashed: bool,
+    positions: &[f64],
+    starts: &[u32],
+    entries: &[u16],
+    order: &mut [u32],
+    queue: &mut [u32],
+) -> Cursor {
+    let answer = c_api::koshirga_walk(positions, starts, entries, order, queue);
+    let answered = records::expect_u32(text, cursor, answer.refusal);
+    let read = records::expect_u32(text, answered, answer.entries_read);
+    let behind_order = records::expect_u32s(text, read, order, hashed);
+    records::expect_u32s(text, behind_order, queue, hashed)
+}
+
+// The lengths of order and queue.
+fn cut_walk(
+    text: &[u8],
+    cursor: Cursor,
+    hashed: bool,
+    positions: &[f64],
+    starts: &[u32],
+    entries: &[u16],
+    order: &mut [u32],
+    queue: &mut [u32],
+) -> Cursor {
+    let o = records::take_length(text, cursor, order.len());
+    let q = records::take_length(text, o.cursor(), queue.len());
+    let o_end = o.places;
+    let q_end = q.places;
+    replay_walk(
+        text,
+        q.cursor(),
+        hashed,
+        positions,
+        starts,
+        entries,
+        &mut order[..o_end],
+        &mut queue[..q_end],
+    )
+}
+
+pub fn walk(
+    text: &[u8],
+    cursor: Cursor,
+    hashed: bool,
+    positions: &[f64],
+    starts: &[u32],
+    entries: &[u16],
+) -> Cursor {
+    let mut order = [U32_BEFORE; 64002];
+    let mut queue = [U32_BEFORE; 64002];
+    cut_walk(
+        text,
+        cursor,
+        hashed,
+        positions,
+        starts,
+        entries,
+        &mut order,
+        &mut queue,
+    )
+}
+
+// The refusal, the side, and the four slices after the call.
+fn expect_grid(
+    text: &[u8],
+    cursor: Cursor,
+    hashed: bool,
+    answer: BuildAnswer,
+    cell_starts: &[u32],
+    cell_ids: &[u16],
+    triangle_starts: &[u32],
+    triples: &[u16],
+) -> Cursor {
+    let answered = records::expect_u32(text, cursor, answer.refusal);
+    let side = records::expect_u32(text, answered, answer.side);
+    let behind_cell_starts = records::expect_u32s(text, side, cell_starts, hashed);
+    let behind_cell_ids = records::expect_u16s(text, behind_cell_starts, cell_ids, hashed);
+    let behind_starts = records::expect_u32s(text, behind_cell_ids, triangle_starts, hashed);
+    records::expect_u16s(text, behind_starts, triples, hashed)
+}
+
+fn replay_grid(
+    text: &[u8],
+    cursor: Cursor,
+    hashed: bool,
+    positions: &[f64],
+    starts: &[u32],
+    entries: &[u16],
+    cell_starts: &mut [u32],
+    cell_ids: &mut [u16],
+    triangle_starts: &mut [u32],
+    triples: &mut [u16],
+) -> Cursor {
+    let answer = c_api::koshirga_build_grid(
+        positions,
+        starts,
+        entries,
+        cell_starts,
+        cell_ids,
+        triangle_starts,
+        triples,
+    );
+    expect_grid(
+        text,
+        cursor,
+        hashed,
+        answer,
+        cell_starts,
+        cell_ids,
+        triangle_starts,
+        triples,
+    )
+}
+
+// The lengths of a grid's four slices.
+fn cut_grid(
+    text: &[u8],
+    cursor: Cursor,
+    hashed: bool,
+    positions: &[f64],
+    starts: &[u32],
+    entries: &[u16],
+    cell_starts: &mut [u32],
+    cell_ids: &mut [u16],
+    triangle_starts: &mut [u32],
+    triples: &mut [u16],
+) -> Cursor {
+    let a = records::take_length(text, cursor, cell_starts.len());
+    let b = records::take_length(text, a.cursor(), cell_ids.len());
+    let c = records::take_length(text, b.cursor(), triangle_starts.len());
+    let d = records::take_length(text, c.cursor(), triples.len());
+    let a_end = a.places;
+    let b_end = b.places;
+    let c_end = c.places;
+    let d_end = d.places;
+    replay_grid(
+        text,
+        d.cursor(),
+        hashed,
+        positions,
+        starts,
+        entries,
+        &mut cell_starts[..a_end],
+        &mut cell_ids[..b_end],
+        &mut triangle_starts[..c_end],
+        &mut triples[..d_end],
+    )
+}
+
+pub fn grid(
+    text: &[u8],
+    cursor: Cursor,
+    hashed: bool,
+    positions: &[f64],
+    starts: &[u32],
+    entries: &[u16],
+) -> Cursor {
+    let mut cell_starts = [U32_BEFORE; 51895];
+    let mut cell_ids = [U16_BEFORE; 326488];
+    let mut triangle_starts = [U32_BEFORE; 36003];
+    let mut triples = [U16_BEFORE; 648000];
+    cut_grid(
+        text,
+        cursor,
+        hashed,
+        positions,
+        starts,
+        entries,
+        &mut cell_starts,
+        &mut cell_ids,
+        &mut triangle_starts,
+        &mut triples,
+    )
+}
+
+// The slices of a mesh; then its walk, and its grid.
+fn replay_mesh(
+    text: &[u8],
+    cursor: Cursor,
+    positions: &mut [f64],
+    starts: &mut [u32],
+    entries: &mut [u16],
+) -> Cursor {
+    let behind_positions = records::read_f64s(text, cursor, positions);
+    let behind_starts = records::read_u32s(text, behind_positions, starts);
+    let behind_entries = records::read_u16s(text, behind_starts, entries);
+    let behind_walk = walk(text, behind_entries, false, positions, starts, entries);
+    grid(text, behind_walk, false, positions, starts, entries)
+}
+
+// The lengths of a mesh's three slices.
+fn cut_mesh(
+    text: &[u8],
+    start: usize,
+    positions: &mut [f64],
+    starts: &mut [u32],
+    entries: &mut [u16],
+) -> Cursor {
+    let p = records::take_length(text, Cursor::new(start), positions.len());
+    let s = records::take_length(text, p.cursor(), starts.len());
+    let e = records::take_length(text, s.cursor(), entries.len());
+    let p_end = p.places;
+    let s_end = s.places;
+    let e_end = e.places;
+    replay_mesh(
+        text,
+        e.cursor(),
+        &mut positions[..p_end],
+        &mut starts[..s_end],
+        &mut entries[..e_end],
+    )
+}
+
+pub fn mesh(text: &[u8], start: usize) -> Cursor {
+    let mut positions = [F64_BEFORE; 128];
+    let mut starts = [U32_BEFORE; 64];
+    let mut entries = [U16_BEFORE; 1024];
+    cut_mesh(text, start, &mut positions, &mut starts, &mut entries)
+}
