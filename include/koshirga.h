@@ -1,8 +1,11 @@
-/* Koshirga: exports of the archive libc_api.a, which `rt staticlib c_api` makes.
+/* Koshirga: exports of the archive libc_api.a, which `rt staticlib c_api` makes. A whole program that
+ * uses them is examples/balloon.c.
  *
  * Clauses are those of IEEE 754-2019. All arithmetic is on binary64, rounded to nearest, ties to
- * even (4.3.1), one rounding an operation; koshirga_mul_add alone is fused. Sign and payload of a
- * NaN result are free. Every function accepts every argument and keeps no state.
+ * even (4.3.1), one rounding an operation; a product and a sum are fused only where document 01
+ * fuses them. Sign and payload of a NaN result are free. Every function accepts every argument and
+ * keeps no state. The caller's floating-point environment is the default one: rounding to nearest,
+ * subnormals not flushed to zero.
  *
  * A slice is a pointer and the number of its elements. The pointer of an empty slice is not null
  * and is not read. Slices that are written overlap no other. Document 01 says what a mesh, an id
@@ -98,7 +101,7 @@ typedef struct koshirga_weights {
 koshirga_weights koshirga_projected_barycentric(koshirga_vector3 p, koshirga_vector3 a,
                                                 koshirga_vector3 b, koshirga_vector3 c);
 
-/* The least weight: NaN is skipped, and the earlier of equals stays. */
+/* The least weight: NaN is skipped, and the earlier of equals stays. NaN where all three are. */
 double koshirga_least_weight(koshirga_weights weights);
 
 /* ---- walk and renumbering */
@@ -109,7 +112,8 @@ typedef struct koshirga_walk_answer {
 
 /* Breadth first from vertex 0. order gets the new id at each old one, queue the old ids in that
  * order; each needs a place a vertex, and surplus is untouched. Rows 2, 3, 4, 8, 13; 13 leaves
- * reached ids numbered and 4294967295 for others, the other rows change nothing. */
+ * reached ids numbered, 4294967295 for others and the reached ids in queue, the other rows change
+ * nothing. */
 koshirga_walk_answer koshirga_walk(const double *positions, size_t positions_length,
                                    const uint32_t *starts, size_t starts_length,
                                    const uint16_t *entries, size_t entries_length,
@@ -118,8 +122,8 @@ koshirga_walk_answer koshirga_walk(const double *positions, size_t positions_len
 
 /* Renumbers mesh and data by a permutation that holds the new id at each old one. values has
  * entries_per_vertex entries a vertex, 1 or the vertex count; a tail shorter than a slab is
- * untouched. The last five slices are scratch, each as long as the longest list. 0, or the number
- * of the refusing row (2, 3, 4, 6, 7, 8), which changes nothing. */
+ * untouched. The last five slices are scratch, each at least as long as the longest slice before
+ * them. 0, or the number of the refusing row (2, 3, 4, 6, 7, 8), which changes nothing. */
 uint32_t koshirga_renumber(double *positions, size_t positions_length,
                            uint32_t *starts, size_t starts_length,
                            uint16_t *entries, size_t entries_length,
@@ -174,8 +178,10 @@ typedef struct koshirga_build_answer {
 } koshirga_build_answer;
 
 /* Writes the cube grid of a mesh: 6g^2 + 1 cell starts, the cells' ids, a triangle start a vertex
- * and one more (in whole triples), and the triples. Queries take the slices cut to these lengths.
- * Rows 2, 3, 4, 5, 8 change nothing. */
+ * and one more (in whole triples), and the triples. The side g is the ceiling of root(count/6)*1.2,
+ * at least 2. A vertex needs at most 27 cell ids, and a lattice 60n^2 triples; the last start of
+ * either list says how many there are. Queries take the slices cut to these lengths. Rows 2, 3, 4,
+ * 5, 8 change nothing. */
 koshirga_build_answer koshirga_build_grid(const double *positions, size_t positions_length,
                                           const uint32_t *starts, size_t starts_length,
                                           const uint16_t *entries, size_t entries_length,

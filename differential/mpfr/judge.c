@@ -2,7 +2,9 @@
  *
  * Standard input, from `compare cases`: for each class of cases a line with the number of operands
  * (3: mul_add, 1: sqrt), the number of cases and the name, then the operands as they lie in memory.
- * Exit status: 0 no difference; 1 some; 2 input that can't be read.
+ * Each class has its line on standard output; the sums have theirs in the file that the argument
+ * names, as `compare` writes it.
+ * Exit status: 0 no difference; 1 some; 2 input that can't be read, or a file that can't be written.
  */
 #define _POSIX_C_SOURCE 200809L
 
@@ -122,9 +124,15 @@ static uint64_t judge(const class_head *head) {
     return differences;
 }
 
-int main(void) {
+int main(int arguments, char **argument) {
     class_head head;
     uint64_t classes = 0, count = 0, differences = 0;
+    const double start = seconds();
+    FILE *summary = arguments == 2 ? fopen(argument[1], "w") : NULL;
+    if (!summary) {
+        fprintf(stderr, "usage: judge SUMMARY, a file that can be written\n");
+        return 2;
+    }
     mpfr_set_emin(LEAST_EXPONENT);
     mpfr_set_emax(GREATEST_EXPONENT);
     for (int i = 0; i < OPERANDS; i++)
@@ -138,7 +146,11 @@ int main(void) {
     }
     if (classes == 0)
         unreadable();
-    printf("%" PRIu64 " checks, %" PRIu64 " comparisons with MPFR, %" PRIu64 " differences\n",
-           classes, count, differences);
+    fprintf(summary, "mpfr\t%" PRIu64 "\t%" PRIu64 "\t%" PRIu64 "\t%.2f\n", classes, count,
+            differences, seconds() - start);
+    if (fclose(summary) != 0) {
+        fprintf(stderr, "judge: %s can't be written\n", argument[1]);
+        return 2;
+    }
     return differences != 0;
 }

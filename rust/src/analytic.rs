@@ -5,21 +5,35 @@ use crate::{ffi, Refusal, Vector3, Weights};
 /// On which side of each symmetry plane a point lies: whether on the negative one.
 #[derive(Clone, Copy, Debug, PartialEq, Eq)]
 pub struct Signs {
+    /// On the negative side of the first plane.
     pub i: bool,
+    /// On the negative side of the second plane.
     pub j: bool,
+    /// On the negative side of the third plane.
     pub k: bool,
 }
 
 /// Beyond which side planes of a face a point lies.
 #[derive(Clone, Copy, Debug, PartialEq, Eq)]
 pub struct Outside {
+    /// Beyond the first plane; weighs 1.
     pub first: bool,
+    /// Beyond the second plane; weighs 2.
     pub second: bool,
+    /// Beyond the third plane; weighs 3.
     pub third: bool,
 }
 
 /// The master face that the signs and flags choose: flags weigh 1, 2 and 3, and row 10 refuses a
 /// sum above 3.
+///
+/// ```
+/// use koshirga::{choose_face, Outside, Signs};
+///
+/// let signs = Signs { i: false, j: true, k: false };
+/// let both = Outside { first: true, second: true, third: false };
+/// assert_eq!(choose_face(signs, both), Ok(14));
+/// ```
 pub fn choose_face(signs: Signs, outside: Outside) -> Result<u32, Refusal> {
     let Signs { i, j, k } = signs;
     let Outside {
@@ -33,10 +47,25 @@ pub fn choose_face(signs: Signs, outside: Outside) -> Result<u32, Refusal> {
 }
 
 /// A lattice by its frequency, from 1 to 80, and its id table: the twenty faces' slots,
-/// (n + 1)(n + 2)/2 each, one face behind another.
+/// (n + 1)(n + 2)/2 each, one face behind another. The ids are the lattice's own: a renumbering of
+/// the mesh doesn't change them.
+///
+/// ```
+/// use koshirga::{LatticeGeometry, Vector3};
+///
+/// let lattice = LatticeGeometry::new(1)?;
+/// let direction = Vector3::new(1.0, 2.0, 3.0);
+/// let (triple, weights) = lattice.analytic().locate(direction)?;
+/// assert_eq!(triple, [2, 1, 0]);
+/// assert!(weights.w > weights.u && weights.u > weights.v);
+/// assert_eq!(lattice.analytic().find_nearest_vertex(direction)?, 0);
+/// # Ok::<(), koshirga::Refusal>(())
+/// ```
 #[derive(Clone, Copy, Debug)]
 pub struct AnalyticLattice<'a> {
+    /// The frequency n.
     pub frequency: u32,
+    /// The id table.
     pub ids: &'a [u16],
 }
 
@@ -44,10 +73,7 @@ impl AnalyticLattice<'_> {
     /// The ids of the triangle that a direction meets, with their weights. The direction needs no
     /// normalising. Rows 1, 8, 9, 10 and 4 refuse, in this order.
     pub fn locate(&self, direction: Vector3) -> Result<([u32; 3], Weights), Refusal> {
-        let (frequency, ids) = (self.frequency, self.ids);
-        // Safe: pointer and length are a slice's.
-        let answer =
-            unsafe { ffi::koshirga_analytic_locate(frequency, ids.as_ptr(), ids.len(), direction) };
+        let answer = ffi::analytic_locate(self.frequency, self.ids, direction);
         Refusal::check(answer.refusal)?;
         Ok((answer.triple, answer.weights))
     }
@@ -55,11 +81,7 @@ impl AnalyticLattice<'_> {
     /// The last corner of that triangle with the greatest weight in total order (5.10). Rows as
     /// for `locate`.
     pub fn find_nearest_vertex(&self, direction: Vector3) -> Result<u32, Refusal> {
-        let (frequency, ids) = (self.frequency, self.ids);
-        // Safe: pointer and length are a slice's.
-        let answer = unsafe {
-            ffi::koshirga_analytic_nearest(frequency, ids.as_ptr(), ids.len(), direction)
-        };
+        let answer = ffi::analytic_nearest(self.frequency, self.ids, direction);
         Refusal::check(answer.refusal)?;
         Ok(answer.id)
     }

@@ -5,6 +5,11 @@ use std::cmp::Ordering;
 
 /// How the bit pattern `x` stands to `y` in the total order (5.10). Patterns and not doubles, as
 /// the order tells NaNs apart by sign, kind and payload.
+///
+/// ```
+/// let (negative, positive) = (f64::to_bits(-0.0), f64::to_bits(0.0));
+/// assert!(koshirga::total_cmp(negative, positive).is_lt());
+/// ```
 pub fn total_cmp(x: u64, y: u64) -> Ordering {
     match ffi::koshirga_total_cmp(x, y) {
         -1 => Ordering::Less,
@@ -16,22 +21,33 @@ pub fn total_cmp(x: u64, y: u64) -> Ordering {
 
 /// The place of `x` in the total order (5.10) of all 2^64 bit patterns, counted from 0. Every
 /// NaN counts as the pattern `0x7ff8_0000_0000_0000`.
+///
+/// ```
+/// assert_eq!(koshirga::rank(0.0), koshirga::rank(-0.0) + 1);
+/// ```
 pub fn rank(x: f64) -> u64 {
     ffi::koshirga_rank(x)
 }
 
-/// The greatest whole number not above `x` (5.9, roundToIntegralTowardNegative).
+/// The greatest whole number not above `x` (5.9, roundToIntegralTowardNegative). The sign stays,
+/// also that of a zero (6.3).
 pub fn floor(x: f64) -> f64 {
     ffi::koshirga_floor(x)
 }
 
-/// The least whole number not below `x` (5.9, roundToIntegralTowardPositive).
+/// The least whole number not below `x` (5.9, roundToIntegralTowardPositive). The sign stays, also
+/// that of a zero (6.3).
 pub fn ceil(x: f64) -> f64 {
     ffi::koshirga_ceil(x)
 }
 
 /// `x` cut toward zero (5.8, convertToIntegerTowardZero): the nearer end of the range for values
 /// beyond it, 0 for a NaN.
+///
+/// ```
+/// assert_eq!(koshirga::to_i64(-1.5), -1);
+/// assert_eq!(koshirga::to_i64(1e19), i64::MAX);
+/// ```
 pub fn to_i64(x: f64) -> i64 {
     ffi::koshirga_to_i64(x)
 }
@@ -39,12 +55,22 @@ pub fn to_i64(x: f64) -> i64 {
 /// a·b + c, exact and then rounded once to nearest, ties to even (5.4.1, fusedMultiplyAdd; 4.3.1).
 /// An exact zero sum of opposite signs is +0, and a result that is rounded to zero keeps its sign
 /// (6.3).
+///
+/// ```
+/// let (x, y) = (1.0 + f64::EPSILON, -(1.0 + 2.0 * f64::EPSILON));
+/// assert_eq!(koshirga::mul_add(x, x, y), 2f64.powi(-104));
+/// assert_eq!(x * x + y, 0.0); // rounded apart
+/// ```
 pub fn mul_add(a: f64, b: f64, c: f64) -> f64 {
     ffi::koshirga_mul_add(a, b, c)
 }
 
 /// The square root, exact and then rounded to nearest, ties to even (5.4.1, squareRoot; 4.3.1).
 /// The root of −0 is −0 (6.3), that of a number below zero a NaN (7.2).
+///
+/// ```
+/// assert_eq!(koshirga::sqrt(2.25), 1.5);
+/// ```
 pub fn sqrt(x: f64) -> f64 {
     ffi::koshirga_sqrt(x)
 }

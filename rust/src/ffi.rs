@@ -1,7 +1,8 @@
-//! The archive's exports, as `include/koshirga.h` declares them. Each accepts every argument, so
-//! each is `safe` to call but those that take slices: pointer and length have to be a slice's.
+//! The archive's exports, as `include/koshirga.h` declares them, and the crate's only unsafe code.
+//! Each accepts every argument, so each is `safe` to call but those that take slices: pointer and
+//! length have to be a slice's. These are called below, by functions that take the slices.
 
-use crate::{Vector3, Weights};
+use crate::{Grid, GridMut, Mesh, MeshMut, Scratch, Vector3, Weights};
 
 #[repr(C)]
 pub struct BuildAnswer {
@@ -78,7 +79,7 @@ unsafe extern "C" {
     ) -> Weights;
     pub safe fn koshirga_least_weight(weights: Weights) -> f64;
 
-    pub fn koshirga_walk(
+    fn koshirga_walk(
         positions: *const f64,
         positions_length: usize,
         starts: *const u32,
@@ -90,7 +91,7 @@ unsafe extern "C" {
         queue: *mut u32,
         queue_length: usize,
     ) -> WalkAnswer;
-    pub fn koshirga_renumber(
+    fn koshirga_renumber(
         positions: *mut f64,
         positions_length: usize,
         starts: *mut u32,
@@ -114,7 +115,7 @@ unsafe extern "C" {
         held_length: usize,
     ) -> u32;
 
-    pub fn koshirga_lattice(
+    fn koshirga_lattice(
         frequency: u32,
         positions: *mut f64,
         positions_length: usize,
@@ -125,7 +126,7 @@ unsafe extern "C" {
         ids: *mut u16,
         ids_length: usize,
     ) -> u32;
-    pub fn koshirga_build_grid(
+    fn koshirga_build_grid(
         positions: *const f64,
         positions_length: usize,
         starts: *const u32,
@@ -150,20 +151,20 @@ unsafe extern "C" {
         second: bool,
         third: bool,
     ) -> FaceAnswer;
-    pub fn koshirga_analytic_locate(
+    fn koshirga_analytic_locate(
         frequency: u32,
         ids: *const u16,
         ids_length: usize,
         direction: Vector3,
     ) -> AnalyticAnswer;
-    pub fn koshirga_analytic_nearest(
+    fn koshirga_analytic_nearest(
         frequency: u32,
         ids: *const u16,
         ids_length: usize,
         direction: Vector3,
     ) -> VertexAnswer;
 
-    pub fn koshirga_grid_nearest(
+    fn koshirga_grid_nearest(
         positions: *const f64,
         positions_length: usize,
         side: u32,
@@ -175,7 +176,7 @@ unsafe extern "C" {
         triangle_starts_length: usize,
         direction: Vector3,
     ) -> NearestAnswer;
-    pub fn koshirga_grid_locate(
+    fn koshirga_grid_locate(
         positions: *const f64,
         positions_length: usize,
         side: u32,
@@ -189,4 +190,210 @@ unsafe extern "C" {
         triples_length: usize,
         direction: Vector3,
     ) -> LocatedAnswer;
+}
+
+pub fn walk(mesh: Mesh, order: &mut [u32], queue: &mut [u32]) -> WalkAnswer {
+    let Mesh {
+        positions,
+        starts,
+        entries,
+    } = mesh;
+    // Safe: pointers and lengths are of slices, and those written are lent alone.
+    unsafe {
+        koshirga_walk(
+            positions.as_ptr(),
+            positions.len(),
+            starts.as_ptr(),
+            starts.len(),
+            entries.as_ptr(),
+            entries.len(),
+            order.as_mut_ptr(),
+            order.len(),
+            queue.as_mut_ptr(),
+            queue.len(),
+        )
+    }
+}
+
+pub fn renumber(
+    mesh: MeshMut,
+    values: &mut [f64],
+    permutation: &[u32],
+    entries_per_vertex: usize,
+    scratch: Scratch,
+) -> u32 {
+    let MeshMut {
+        positions,
+        starts,
+        entries,
+    } = mesh;
+    let Scratch {
+        sources,
+        old_starts,
+        old_entries,
+        done,
+        held,
+    } = scratch;
+    // Safe: pointers and lengths are of slices, and those written are lent alone.
+    unsafe {
+        koshirga_renumber(
+            positions.as_mut_ptr(),
+            positions.len(),
+            starts.as_mut_ptr(),
+            starts.len(),
+            entries.as_mut_ptr(),
+            entries.len(),
+            values.as_mut_ptr(),
+            values.len(),
+            permutation.as_ptr(),
+            permutation.len(),
+            entries_per_vertex,
+            sources.as_mut_ptr(),
+            sources.len(),
+            old_starts.as_mut_ptr(),
+            old_starts.len(),
+            old_entries.as_mut_ptr(),
+            old_entries.len(),
+            done.as_mut_ptr(),
+            done.len(),
+            held.as_mut_ptr(),
+            held.len(),
+        )
+    }
+}
+
+pub fn lattice(frequency: u32, mesh: MeshMut, ids: &mut [u16]) -> u32 {
+    let MeshMut {
+        positions,
+        starts,
+        entries,
+    } = mesh;
+    // Safe: pointers and lengths are of slices, and each is lent alone.
+    unsafe {
+        koshirga_lattice(
+            frequency,
+            positions.as_mut_ptr(),
+            positions.len(),
+            starts.as_mut_ptr(),
+            starts.len(),
+            entries.as_mut_ptr(),
+            entries.len(),
+            ids.as_mut_ptr(),
+            ids.len(),
+        )
+    }
+}
+
+pub fn build_grid(mesh: Mesh, grid: GridMut) -> BuildAnswer {
+    let Mesh {
+        positions,
+        starts,
+        entries,
+    } = mesh;
+    let GridMut {
+        cell_starts,
+        cell_ids,
+        triangle_starts,
+        triples,
+    } = grid;
+    // Safe: pointers and lengths are of slices, and those written are lent alone.
+    unsafe {
+        koshirga_build_grid(
+            positions.as_ptr(),
+            positions.len(),
+            starts.as_ptr(),
+            starts.len(),
+            entries.as_ptr(),
+            entries.len(),
+            cell_starts.as_mut_ptr(),
+            cell_starts.len(),
+            cell_ids.as_mut_ptr(),
+            cell_ids.len(),
+            triangle_starts.as_mut_ptr(),
+            triangle_starts.len(),
+            triples.as_mut_ptr(),
+            triples.len(),
+        )
+    }
+}
+
+pub fn analytic_locate(frequency: u32, ids: &[u16], direction: Vector3) -> AnalyticAnswer {
+    // Safe: pointer and length are a slice's.
+    unsafe { koshirga_analytic_locate(frequency, ids.as_ptr(), ids.len(), direction) }
+}
+
+pub fn analytic_nearest(frequency: u32, ids: &[u16], direction: Vector3) -> VertexAnswer {
+    // Safe: pointer and length are a slice's.
+    unsafe { koshirga_analytic_nearest(frequency, ids.as_ptr(), ids.len(), direction) }
+}
+
+pub fn grid_nearest(grid: Grid, direction: Vector3) -> NearestAnswer {
+    // Safe: pointers and lengths are of slices.
+    unsafe {
+        koshirga_grid_nearest(
+            grid.positions.as_ptr(),
+            grid.positions.len(),
+            grid.side,
+            grid.cell_starts.as_ptr(),
+            grid.cell_starts.len(),
+            grid.cell_ids.as_ptr(),
+            grid.cell_ids.len(),
+            grid.triangle_starts.as_ptr(),
+            grid.triangle_starts.len(),
+            direction,
+        )
+    }
+}
+
+pub fn grid_locate(grid: Grid, direction: Vector3) -> LocatedAnswer {
+    // Safe: pointers and lengths are of slices.
+    unsafe {
+        koshirga_grid_locate(
+            grid.positions.as_ptr(),
+            grid.positions.len(),
+            grid.side,
+            grid.cell_starts.as_ptr(),
+            grid.cell_starts.len(),
+            grid.cell_ids.as_ptr(),
+            grid.cell_ids.len(),
+            grid.triangle_starts.as_ptr(),
+            grid.triangle_starts.len(),
+            grid.triples.as_ptr(),
+            grid.triples.len(),
+            direction,
+        )
+    }
+}
+
+#[cfg(test)]
+mod tests {
+    use std::collections::BTreeSet;
+
+    /// The names `koshirga_...` that stand before an opening bracket, with `before` in front.
+    fn functions(text: &'static str, before: &str) -> BTreeSet<&'static str> {
+        let is_part = |c: char| c.is_ascii_alphanumeric() || c == '_';
+        text.match_indices("koshirga_")
+            .filter_map(|(at, _)| {
+                let rest = &text[at..];
+                let end = rest.find(|c| !is_part(c))?;
+                let called = rest[end..].starts_with('(') && text[..at].ends_with(before);
+                called.then_some(&rest[..end])
+            })
+            .collect()
+    }
+
+    /// The header declares each function in a line that begins with its type, and names others
+    /// only in comments.
+    #[test]
+    fn every_export_is_declared_here() {
+        let header = include_str!("../../include/koshirga.h");
+        let declared: BTreeSet<&str> = header
+            .lines()
+            .filter(|line| !line.starts_with([' ', '/', '#', '}']))
+            .flat_map(|line| functions(line, " "))
+            .collect();
+        let source = include_str!("ffi.rs");
+        assert_eq!(declared, functions(source, "fn "));
+        assert!(declared.contains("koshirga_grid_locate"), "{declared:?}");
+    }
 }

@@ -1,31 +1,71 @@
 //! The lattice of a frequency.
 
-use crate::{ffi, MeshMut, Refusal};
+use crate::{ffi, AnalyticLattice, MeshData, MeshMut, Refusal};
 
 /// Writes the lattice of a frequency from 1 to 80: 10n² + 2 vertices with three coordinates each,
 /// as many starts and one more, 60n² entries, and the id table, 20 faces of (n + 1)(n + 2)/2 slots.
 /// Surplus places are untouched. Rows 1 and 8 change nothing.
+///
+/// [`LatticeGeometry::new`](crate::LatticeGeometry::new) brings the slices itself.
 pub fn lattice_geometry(frequency: u32, mesh: MeshMut, ids: &mut [u16]) -> Result<(), Refusal> {
-    let MeshMut {
-        positions,
-        starts,
-        entries,
-    } = mesh;
-    // Safe: pointers and lengths are of slices, and each is lent alone.
-    let code = unsafe {
-        ffi::koshirga_lattice(
+    Refusal::check(ffi::lattice(frequency, mesh, ids))
+}
+
+/// The greatest frequency that row 1 accepts.
+const GREATEST_FREQUENCY: u32 = 80;
+
+/// A lattice that holds its lists itself: its mesh, and the id table that the analytic locator
+/// reads.
+///
+/// ```
+/// use koshirga::LatticeGeometry;
+///
+/// let lattice = LatticeGeometry::new(20)?;
+/// assert_eq!(lattice.mesh.vertex_count(), 4002);
+/// assert!(LatticeGeometry::new(81).is_err());
+/// # Ok::<(), koshirga::Refusal>(())
+/// ```
+#[derive(Clone, Debug, PartialEq)]
+pub struct LatticeGeometry {
+    /// The frequency n.
+    pub frequency: u32,
+    /// The lattice's vertices and their neighbours.
+    pub mesh: MeshData,
+    /// The id table: the twenty faces' slots, (n + 1)(n + 2)/2 each, one face behind another.
+    pub ids: Vec<u16>,
+}
+
+impl LatticeGeometry {
+    /// The lattice of a frequency from 1 to 80. Row 1 refuses others.
+    pub fn new(frequency: u32) -> Result<Self, Refusal> {
+        // A refused frequency needs no room.
+        let n = if frequency > GREATEST_FREQUENCY {
+            0
+        } else {
+            frequency as usize
+        };
+        let count = 10 * n * n + 2;
+        let mut lattice = LatticeGeometry {
             frequency,
-            positions.as_mut_ptr(),
-            positions.len(),
-            starts.as_mut_ptr(),
-            starts.len(),
-            entries.as_mut_ptr(),
-            entries.len(),
-            ids.as_mut_ptr(),
-            ids.len(),
-        )
-    };
-    Refusal::check(code)
+            mesh: MeshData {
+                positions: vec![0.0; 3 * count],
+                starts: vec![0; count + 1],
+                entries: vec![0; 60 * n * n],
+            },
+            ids: vec![0; 10 * (n + 1) * (n + 2)],
+        };
+        lattice_geometry(frequency, lattice.mesh.as_mesh_mut(), &mut lattice.ids)?;
+        Ok(lattice)
+    }
+
+    /// The analytic locator of the lattice. Its ids are those that the lattice was made with, also
+    /// where its mesh was renumbered since.
+    pub fn analytic(&self) -> AnalyticLattice<'_> {
+        AnalyticLattice {
+            frequency: self.frequency,
+            ids: &self.ids,
+        }
+    }
 }
 
 #[cfg(test)]
@@ -45,6 +85,23 @@ mod tests {
         assert_eq!(lattice_geometry(1, mesh, &mut ids), Ok(()));
         assert_eq!(entries[..5], [1, 2, 3, 6, 7]);
         assert_eq!((starts[1], starts[12], entries[60]), (5, 60, 7));
+    }
+
+    #[test]
+    fn counts() {
+        for n in [1, 2, 7, 80] {
+            let lattice = LatticeGeometry::new(n as u32).unwrap();
+            let count = lattice.mesh.vertex_count();
+            assert_eq!(count, 10 * n * n + 2);
+            let of_five = (0..count).filter(|&id| lattice.mesh.neighbors(id).len() == 5);
+            assert_eq!(of_five.count(), 12);
+            assert_eq!(lattice.mesh.starts[count] as usize, 60 * n * n);
+            assert_eq!(lattice.ids.iter().max(), Some(&((count - 1) as u16)));
+        }
+        for frequency in [0, 81, u32::MAX] {
+            let refused = LatticeGeometry::new(frequency).map_err(Refusal::number);
+            assert_eq!(refused.err(), Some(1));
+        }
     }
 
     #[test]

@@ -1,21 +1,26 @@
 //! The walk over a mesh, and its renumbering.
 
-use crate::{ffi, Refusal};
+use crate::{ffi, Refusal, Vector3};
 
-/// A mesh: three coordinates a vertex, the starts of the neighbour lists (one more than vertices),
-/// and their entries.
+/// A mesh: vertices and their neighbour lists.
 #[derive(Clone, Copy, Debug)]
 pub struct Mesh<'a> {
+    /// Three coordinates a vertex.
     pub positions: &'a [f64],
+    /// Where each neighbour list starts: one more than vertices, the last the entry count.
     pub starts: &'a [u32],
+    /// The neighbour lists, one behind another.
     pub entries: &'a [u16],
 }
 
 /// A mesh lent for writing.
 #[derive(Debug)]
 pub struct MeshMut<'a> {
+    /// Three coordinates a vertex.
     pub positions: &'a mut [f64],
+    /// Where each neighbour list starts.
     pub starts: &'a mut [u32],
+    /// The neighbour lists, one behind another.
     pub entries: &'a mut [u16],
 }
 
@@ -23,39 +28,32 @@ pub struct MeshMut<'a> {
 /// What an accepted call leaves in it is free.
 #[derive(Debug)]
 pub struct Scratch<'a> {
+    /// The permutation's inverse.
     pub sources: &'a mut [u32],
+    /// The starts before.
     pub old_starts: &'a mut [u32],
+    /// The entries before.
     pub old_entries: &'a mut [u16],
+    /// Which vertices are moved already.
     pub done: &'a mut [u8],
+    /// What a cycle's walk carries.
     pub held: &'a mut [f64],
 }
 
-/// The breadth-first order from vertex 0, lists in stored order: `order` gets the new id at each
+/// The walk, breadth first from vertex 0, lists in stored order: `order` gets the new id at each
 /// old one, `queue` the old ids in that order. Gives the count of entries read.
 ///
 /// Rows 2, 3, 4 and 8 (a place a vertex in each slice) change nothing. Row 13 leaves the reached
 /// ids numbered, `u32::MAX` for the others, and the reached ids in the queue.
-pub fn walk(mesh: Mesh, order: &mut [u32], queue: &mut [u32]) -> Result<u32, Refusal> {
-    let Mesh {
-        positions,
-        starts,
-        entries,
-    } = mesh;
-    // Safe: pointers and lengths are of slices, and those written are lent alone.
-    let answer = unsafe {
-        ffi::koshirga_walk(
-            positions.as_ptr(),
-            positions.len(),
-            starts.as_ptr(),
-            starts.len(),
-            entries.as_ptr(),
-            entries.len(),
-            order.as_mut_ptr(),
-            order.len(),
-            queue.as_mut_ptr(),
-            queue.len(),
-        )
-    };
+///
+/// [`MeshData::bfs_vertex_permutation`](crate::MeshData::bfs_vertex_permutation) brings the slices
+/// itself.
+pub fn bfs_vertex_permutation(
+    mesh: Mesh,
+    order: &mut [u32],
+    queue: &mut [u32],
+) -> Result<u32, Refusal> {
+    let answer = ffi::walk(mesh, order, queue);
     Refusal::check(answer.refusal)?;
     Ok(answer.entries_read)
 }
@@ -63,52 +61,128 @@ pub fn walk(mesh: Mesh, order: &mut [u32], queue: &mut [u32]) -> Result<u32, Ref
 /// Renumbers mesh and data by a permutation that holds the new id at each old one. The data has 1
 /// or as many entries a vertex as there are vertices, and in the second form both indices move; a
 /// tail shorter than a slab is untouched. Rows 2, 3, 4, 6, 7 and 8 change nothing.
-pub fn renumber(
+///
+/// [`MeshData::apply_vertex_permutation`](crate::MeshData::apply_vertex_permutation) brings the
+/// scratch itself.
+pub fn apply_vertex_permutation(
     mesh: MeshMut,
     values: &mut [f64],
     permutation: &[u32],
     entries_per_vertex: usize,
     scratch: Scratch,
 ) -> Result<(), Refusal> {
-    let MeshMut {
-        positions,
-        starts,
-        entries,
-    } = mesh;
-    let Scratch {
-        sources,
-        old_starts,
-        old_entries,
-        done,
-        held,
-    } = scratch;
-    // Safe: pointers and lengths are of slices, and those written are lent alone.
-    let code = unsafe {
-        ffi::koshirga_renumber(
-            positions.as_mut_ptr(),
-            positions.len(),
-            starts.as_mut_ptr(),
-            starts.len(),
-            entries.as_mut_ptr(),
-            entries.len(),
-            values.as_mut_ptr(),
-            values.len(),
-            permutation.as_ptr(),
-            permutation.len(),
-            entries_per_vertex,
-            sources.as_mut_ptr(),
-            sources.len(),
-            old_starts.as_mut_ptr(),
-            old_starts.len(),
-            old_entries.as_mut_ptr(),
-            old_entries.len(),
-            done.as_mut_ptr(),
-            done.len(),
-            held.as_mut_ptr(),
-            held.len(),
-        )
-    };
+    let code = ffi::renumber(mesh, values, permutation, entries_per_vertex, scratch);
     Refusal::check(code)
+}
+
+/// What an accepted walk gives.
+#[derive(Clone, Debug, PartialEq, Eq)]
+pub struct Walk {
+    /// The new id at each old one: a permutation to renumber by.
+    pub order: Vec<u32>,
+    /// The old ids in the order of the walk.
+    pub queue: Vec<u32>,
+    /// The count of entries read.
+    pub entries_read: u32,
+}
+
+/// A mesh that holds its lists itself.
+#[derive(Clone, Debug, PartialEq)]
+pub struct MeshData {
+    /// Three coordinates a vertex.
+    pub positions: Vec<f64>,
+    /// Where each neighbour list starts: one more than vertices, the last the entry count.
+    pub starts: Vec<u32>,
+    /// The neighbour lists, one behind another.
+    pub entries: Vec<u16>,
+}
+
+impl MeshData {
+    /// The mesh lent for reading.
+    pub fn as_mesh(&self) -> Mesh<'_> {
+        Mesh {
+            positions: &self.positions,
+            starts: &self.starts,
+            entries: &self.entries,
+        }
+    }
+
+    /// The mesh lent for writing.
+    pub fn as_mesh_mut(&mut self) -> MeshMut<'_> {
+        MeshMut {
+            positions: &mut self.positions,
+            starts: &mut self.starts,
+            entries: &mut self.entries,
+        }
+    }
+
+    /// How many vertices there are.
+    pub fn vertex_count(&self) -> usize {
+        self.positions.len() / 3
+    }
+
+    /// A vertex's position. Panics where the id is not below the count.
+    pub fn position(&self, id: usize) -> Vector3 {
+        let at = &self.positions[3 * id..3 * id + 3];
+        Vector3::new(at[0], at[1], at[2])
+    }
+
+    /// A vertex's neighbour list. Panics where the id is not below the count, or the starts are
+    /// not those of a mesh.
+    pub fn neighbors(&self, id: usize) -> &[u16] {
+        &self.entries[self.starts[id] as usize..self.starts[id + 1] as usize]
+    }
+
+    /// The walk over the mesh: see [`bfs_vertex_permutation`]. A walk that row 13 refuses is lost.
+    pub fn bfs_vertex_permutation(&self) -> Result<Walk, Refusal> {
+        let count = self.vertex_count();
+        let (mut order, mut queue) = (vec![0; count], vec![0; count]);
+        let entries_read = bfs_vertex_permutation(self.as_mesh(), &mut order, &mut queue)?;
+        Ok(Walk {
+            order,
+            queue,
+            entries_read,
+        })
+    }
+
+    /// Renumbers the mesh, and data with 1 or as many entries a vertex as there are vertices: see
+    /// [`apply_vertex_permutation`].
+    ///
+    /// ```
+    /// use koshirga::LatticeGeometry;
+    ///
+    /// let mut mesh = LatticeGeometry::new(1)?.mesh;
+    /// let walk = mesh.bfs_vertex_permutation()?;
+    /// assert_eq!(walk.queue, [0, 1, 2, 3, 6, 7, 5, 10, 4, 8, 11, 9]);
+    /// let mut levels: Vec<f64> = (0..12).map(f64::from).collect();
+    /// mesh.apply_vertex_permutation(&mut levels, &walk.order, 1)?;
+    /// assert_eq!(levels[4], 6.0);
+    /// # Ok::<(), koshirga::Refusal>(())
+    /// ```
+    pub fn apply_vertex_permutation(
+        &mut self,
+        values: &mut [f64],
+        permutation: &[u32],
+        entries_per_vertex: usize,
+    ) -> Result<(), Refusal> {
+        let lengths = [
+            self.positions.len(),
+            self.starts.len(),
+            self.entries.len(),
+            values.len(),
+            permutation.len(),
+        ];
+        let longest = lengths.into_iter().fold(0, usize::max);
+        let scratch = Scratch {
+            sources: &mut vec![0; longest],
+            old_starts: &mut vec![0; longest],
+            old_entries: &mut vec![0; longest],
+            done: &mut vec![0; longest],
+            held: &mut vec![0.0; longest],
+        };
+        let mesh = self.as_mesh_mut();
+        apply_vertex_permutation(mesh, values, permutation, entries_per_vertex, scratch)
+    }
 }
 
 #[cfg(test)]
@@ -128,7 +202,7 @@ mod tests {
             entries: &ENTRIES,
         };
         let (mut order, mut queue) = ([7; 4], [7; 4]);
-        assert_eq!(walk(mesh, &mut order, &mut queue), Ok(4));
+        assert_eq!(bfs_vertex_permutation(mesh, &mut order, &mut queue), Ok(4));
         assert_eq!((order, queue), ([0, 2, 1, 7], [0, 2, 1, 7]));
     }
 
@@ -141,15 +215,24 @@ mod tests {
             entries: &ENTRIES,
         };
         let (mut order, mut queue) = ([7; 4], [7; 4]);
-        assert_eq!(number(walk(mesh, &mut order[..3], &mut queue)), Some(8));
+        assert_eq!(
+            number(bfs_vertex_permutation(mesh, &mut order[..3], &mut queue)),
+            Some(8)
+        );
         assert_eq!((order, queue), ([7; 4], [7; 4]));
-        assert_eq!(number(walk(mesh, &mut order, &mut queue)), Some(13));
+        assert_eq!(
+            number(bfs_vertex_permutation(mesh, &mut order, &mut queue)),
+            Some(13)
+        );
         assert_eq!((order, queue), ([0, 2, 1, u32::MAX], [0, 2, 1, 7]));
         let empty = Mesh {
             positions: &[],
             ..mesh
         };
-        assert_eq!(number(walk(empty, &mut order, &mut queue)), Some(2));
+        assert_eq!(
+            number(bfs_vertex_permutation(empty, &mut order, &mut queue)),
+            Some(2)
+        );
     }
 
     fn renumbered(permutation: &[u32], room: usize) -> (Option<u32>, Vec<f64>, Vec<u16>, Vec<f64>) {
@@ -167,7 +250,7 @@ mod tests {
             done: &mut vec![0; room],
             held: &mut vec![0.0; room],
         };
-        let answer = renumber(mesh, &mut values, permutation, 1, scratch);
+        let answer = apply_vertex_permutation(mesh, &mut values, permutation, 1, scratch);
         (
             answer.err().map(Refusal::number),
             positions.to_vec(),
@@ -183,6 +266,48 @@ mod tests {
         assert_eq!(positions[..6], [0.0, 0.0, 1.0, 1.0, 0.0, 0.0]);
         assert_eq!(entries, [1, 2, 0, 0]);
         assert_eq!(values, [12.0, 10.0, 11.0, 13.0, 14.0]);
+    }
+
+    fn path() -> MeshData {
+        MeshData {
+            positions: POSITIONS[..9].to_vec(),
+            starts: STARTS[..4].to_vec(),
+            entries: ENTRIES.to_vec(),
+        }
+    }
+
+    #[test]
+    fn parts_of_a_mesh() {
+        let path = path();
+        assert_eq!(path.vertex_count(), 3);
+        assert_eq!(path.position(1), Vector3::new(0.0, 1.0, 0.0));
+        assert_eq!(path.neighbors(2), [0, 1]);
+    }
+
+    /// Data for each pair: both indices move, so that entry (p(v), p(v')) is what (v, v') was.
+    #[test]
+    fn renumbering_with_own_lists() {
+        let mut mesh = path();
+        let walk = mesh.bfs_vertex_permutation().unwrap();
+        assert_eq!((&walk.order[..], walk.entries_read), (&[0, 2, 1][..], 4));
+        let mut values: Vec<f64> = (0..9).map(f64::from).collect();
+        assert_eq!(
+            mesh.apply_vertex_permutation(&mut values, &walk.order, 3),
+            Ok(())
+        );
+        assert_eq!(values, [0.0, 2.0, 1.0, 6.0, 8.0, 7.0, 3.0, 5.0, 4.0]);
+        assert_eq!(mesh.neighbors(1), [0, 2]);
+        let refused = mesh.apply_vertex_permutation(&mut values, &[0, 1], 3);
+        assert_eq!(refused.map_err(Refusal::number), Err(6));
+        let refused = mesh.apply_vertex_permutation(&mut values, &walk.order, 2);
+        assert_eq!(refused.map_err(Refusal::number), Err(7));
+        let island = MeshData {
+            positions: POSITIONS.to_vec(),
+            starts: STARTS.to_vec(),
+            entries: ENTRIES.to_vec(),
+        };
+        let refused = island.bfs_vertex_permutation();
+        assert_eq!(refused.map_err(Refusal::number), Err(13));
     }
 
     #[test]

@@ -2,7 +2,17 @@
 
 use std::fmt;
 
-/// A refusal, by its row in document 01's table "Refused, by the place of the check".
+/// A refusal, by its row in document 01's table "Refused, by the place of the check". A call is
+/// refused by the first row that holds.
+///
+/// ```
+/// use koshirga::Vector3;
+///
+/// let refusal = Vector3::ZERO.check_direction().unwrap_err();
+/// assert_eq!(refusal.number(), 9);
+/// assert_eq!(refusal.place(), "direction");
+/// println!("{refusal}");
+/// ```
 #[derive(Clone, Copy, Debug, PartialEq, Eq)]
 pub struct Refusal {
     number: u32,
@@ -17,16 +27,93 @@ impl Refusal {
         }
     }
 
-    /// The row's number.
+    /// The row's number, from 1 to 13.
     pub fn number(self) -> u32 {
         self.number
+    }
+
+    /// What was checked: the row's first column.
+    pub fn place(self) -> &'static str {
+        self.row().0
+    }
+
+    /// When the row holds: its last column.
+    pub fn meaning(self) -> &'static str {
+        self.row().1
+    }
+
+    fn row(self) -> (&'static str, &'static str) {
+        match self.number {
+            1 => ("frequency", "it is below 1 or above 80"),
+            2 => (
+                "mesh",
+                "there is no vertex or more than 65,536, the positions are not three a vertex, or \
+                 the grid's side is not that of the count",
+            ),
+            3 => (
+                "mesh",
+                "the starts have a wrong length, don't begin at 0, fall or don't end at the entry \
+                 count, or a neighbour list is over 32",
+            ),
+            4 => ("mesh", "an id is not below the vertex count"),
+            5 => (
+                "mesh",
+                "a position has a component that is not finite, or a squared length outside \
+                 2^-40 to 2^40",
+            ),
+            6 => (
+                "renumbering",
+                "the permutation has a wrong length or is no permutation of the ids",
+            ),
+            7 => (
+                "renumbering",
+                "the entries a vertex are neither 1 nor the vertex count",
+            ),
+            8 => ("lent space", "a slice is too short"),
+            9 => (
+                "direction",
+                "it has a component that is not finite, or a squared length outside 2^-40 to 2^40",
+            ),
+            10 => ("classifier", "the outside flags weigh more than 3"),
+            11 => ("cell", "no vertex is placed there"),
+            12 => (
+                "adjacent triangles",
+                "none has a least weight above minus infinity",
+            ),
+            13 => ("walk", "a vertex is not reached"),
+            _ => ("archive", "it answered with a row that this crate lacks"),
+        }
     }
 }
 
 impl fmt::Display for Refusal {
     fn fmt(&self, f: &mut fmt::Formatter) -> fmt::Result {
-        write!(f, "refused, row {}", self.number)
+        let Refusal { number } = *self;
+        let (place, meaning) = self.row();
+        write!(f, "refusal {number} ({place}): {meaning}")
     }
 }
 
 impl std::error::Error for Refusal {}
+
+#[cfg(test)]
+mod tests {
+    use super::*;
+
+    #[test]
+    fn accepted_and_refused() {
+        assert_eq!(Refusal::check(0), Ok(()));
+        assert_eq!(Refusal::check(7).map_err(Refusal::number), Err(7));
+    }
+
+    #[test]
+    fn each_row_has_its_own_text() {
+        let text = |number| Refusal { number }.to_string();
+        assert_eq!(text(1), "refusal 1 (frequency): it is below 1 or above 80");
+        assert_eq!(text(13), "refusal 13 (walk): a vertex is not reached");
+        let lacking = Refusal { number: 14 }.meaning();
+        for number in 1..=13 {
+            assert_ne!(Refusal { number }.meaning(), lacking, "row {number}");
+        }
+    }
+}

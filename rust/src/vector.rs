@@ -2,19 +2,32 @@
 
 use crate::{ffi, Refusal};
 
-/// Passed to the archive by value, as C lays it out.
+/// A position or a direction. Passed to the archive by value, as C lays it out.
+///
+/// ```
+/// use koshirga::Vector3;
+///
+/// let v = Vector3::new(3.0, -4.0, 12.0);
+/// assert_eq!(v.norm(), 13.0);
+/// assert_eq!(v.check_direction(), Ok(()));
+/// ```
 #[repr(C)]
 #[derive(Clone, Copy, Debug, PartialEq)]
 pub struct Vector3 {
+    /// The first component.
     pub x: f64,
+    /// The second component.
     pub y: f64,
+    /// The third component.
     pub z: f64,
 }
 
 /// Each operation is the stated sequence of single roundings (4.3.1, 5.4.1).
 impl Vector3 {
+    /// The zero vector.
     pub const ZERO: Vector3 = Vector3::new(0.0, 0.0, 0.0);
 
+    /// The vector of three components.
     pub const fn new(x: f64, y: f64, z: f64) -> Self {
         Vector3 { x, y, z }
     }

@@ -2,18 +2,29 @@
 
 use crate::{ffi, Vector3};
 
-/// Passed to the archive by value, as C lays it out.
+/// The weights of a triangle's three corners. Passed to the archive by value, as C lays it out.
 #[repr(C)]
 #[derive(Clone, Copy, Debug, PartialEq)]
 pub struct Weights {
+    /// The first corner's weight.
     pub u: f64,
+    /// The second corner's weight.
     pub v: f64,
+    /// The third corner's weight.
     pub w: f64,
 }
 
 /// The weights of `a`, `b` and `c` at the point of the triangle that is closest to `p` (Ericson,
 /// Real-Time Collision Detection, pp. 141–142). In va, vb and vc the first product is fused (5.4.1)
 /// with the rounded second one; all else is rounded step by step.
+///
+/// ```
+/// use koshirga::{projected_barycentric, Vector3, Weights};
+///
+/// let (b, c) = (Vector3::new(1.0, 0.0, 0.0), Vector3::new(0.0, 1.0, 0.0));
+/// let weights = projected_barycentric(Vector3::new(0.25, 0.5, 2.0), Vector3::ZERO, b, c);
+/// assert_eq!(weights, Weights { u: 0.25, v: 0.25, w: 0.5 });
+/// ```
 pub fn projected_barycentric(p: Vector3, a: Vector3, b: Vector3, c: Vector3) -> Weights {
     ffi::koshirga_projected_barycentric(p, a, b, c)
 }

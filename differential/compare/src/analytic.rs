@@ -45,13 +45,13 @@ fn every_choice(tally: &mut Tally) {
 }
 
 /// The oracle's own numbers of the classifier.
-struct Classifier {
+pub struct Classifier {
     faces: Vec<rust::MasterFace>,
     planes: [rust::Vector3; 3],
 }
 
 impl Classifier {
-    fn new(lattice: &rust::AnalyticLattice) -> Self {
+    pub fn new(lattice: &rust::AnalyticLattice) -> Self {
         Classifier {
             faces: lattice.faces(),
             planes: lattice.symmetry_planes(),
@@ -59,7 +59,7 @@ impl Classifier {
     }
 
     /// The flags' sum, by which the Rust indexes a line of four faces.
-    fn flag_sum(&self, p: &rust::Vector3) -> (usize, [bool; 3]) {
+    pub fn flag_sum(&self, p: &rust::Vector3) -> (usize, [bool; 3]) {
         let [i, j, k] = [0, 1, 2].map(|at| usize::from(p.dot(&self.planes[at]) < 0.0));
         let first = &self.faces[rust::FACE_MAPPING[i][j][k][0]];
         let flags = [0, 1, 2].map(|at| p.dot(&first.edge_planes[at]) < -1e-12);
@@ -91,9 +91,9 @@ fn flag_sums(tally: &mut Tally) {
 }
 
 /// What a query is to answer: a refusal's number, or ids and weights.
-type Answer = Result<([u32; 3], Weights), u32>;
+pub type Answer = Result<([u32; 3], Weights), u32>;
 
-fn rust_answer(lattice: &rust::AnalyticLattice, classifier: &Classifier, v: Vector3) -> Answer {
+pub fn rust_answer(lattice: &rust::AnalyticLattice, classifier: &Classifier, v: Vector3) -> Answer {
     if row_9(v) {
         return Err(9);
     }

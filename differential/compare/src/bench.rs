@@ -131,7 +131,7 @@ fn meshes(frequency: usize) {
     let mut times = [const { Vec::new() }; 4];
     for _ in 0..MESH_ROUNDS {
         times[0].push(once(|| {
-            koshirga::walk(flat.as_mesh(), &mut order, &mut queue)
+            koshirga::bfs_vertex_permutation(flat.as_mesh(), &mut order, &mut queue)
         }));
         let mut permutation = Vec::new();
         times[1].push(once(|| {
@@ -161,7 +161,7 @@ fn renumbering(flat: &Flat, permutation: &[u32]) -> f64 {
         starts: &mut mesh.starts,
         entries: &mut mesh.entries,
     };
-    once(|| koshirga::renumber(mesh, &mut values, permutation, 1, scratch))
+    once(|| koshirga::apply_vertex_permutation(mesh, &mut values, permutation, 1, scratch))
 }
 
 fn rust_renumbering(lists: &Lists, permutation: &[usize]) -> f64 {

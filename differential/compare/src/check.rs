@@ -1,6 +1,7 @@
 //! What a check is, and how the checks are run and counted.
 
 use std::collections::BTreeMap;
+use std::fmt;
 use std::sync::atomic::{AtomicUsize, Ordering};
 use std::sync::mpsc;
 use std::thread;
@@ -20,6 +21,16 @@ pub struct Topic {
 impl Topic {
     pub const fn new(name: &'static str, checks: fn() -> Vec<Check>) -> Self {
         Topic { name, checks }
+    }
+
+    fn empty_sum(&self) -> Sum {
+        Sum {
+            topic: self.name,
+            checks: 0,
+            count: 0,
+            differences: 0,
+            time: Duration::ZERO,
+        }
     }
 }
 
@@ -86,28 +97,61 @@ pub fn same(x: f64, y: f64) -> bool {
     x.to_bits() == y.to_bits() || (x.is_nan() && y.is_nan())
 }
 
-/// Runs the checks, prints a line for each in the order of the table, then the sums. Gives the
-/// number of differences.
-pub fn run(topics: &[&Topic]) -> u64 {
-    let jobs: Vec<(&str, Check)> = topics
+/// What the checks of a topic add up to.
+pub struct Sum {
+    topic: &'static str,
+    checks: u64,
+    count: u64,
+    pub differences: u64,
+    time: Duration,
+}
+
+impl Sum {
+    fn add(&mut self, tally: &Tally, time: Duration) {
+        self.checks += 1;
+        self.count += tally.count;
+        self.differences += tally.differences;
+        self.time += time;
+    }
+}
+
+/// The line of a summary: topic, checks, comparisons, differences and seconds.
+impl fmt::Display for Sum {
+    fn fmt(&self, f: &mut fmt::Formatter) -> fmt::Result {
+        let Sum {
+            topic,
+            checks,
+            count,
+            differences,
+            time,
+        } = self;
+        let seconds = time.as_secs_f64();
+        write!(f, "{topic}\t{checks}\t{count}\t{differences}\t{seconds:.2}")
+    }
+}
+
+/// Runs the checks and prints a line for each in the order of the table. Gives the sums of each
+/// topic.
+pub fn run(topics: &[&Topic]) -> Vec<Sum> {
+    let jobs: Vec<(usize, Check)> = topics
         .iter()
-        .flat_map(|topic| {
-            (topic.checks)()
-                .into_iter()
-                .map(|check| (topic.name, check))
-        })
+        .enumerate()
+        .flat_map(|(at, topic)| (topic.checks)().into_iter().map(move |check| (at, check)))
         .collect();
+    let mut sums: Vec<Sum> = topics.iter().map(|topic| topic.empty_sum()).collect();
     let next = AtomicUsize::new(0);
     let work = |results: mpsc::Sender<(usize, Tally, Duration)>| {
         while let Some((at, (_, check))) = take(&next, &jobs) {
             let start = Instant::now();
             let mut tally = Tally::default();
             (check.run)(&mut tally);
+            if tally.count == 0 {
+                tally.compare(false, || "nothing was compared".to_string());
+            }
             // Fails only where the receiver is gone, and then nobody wants the result.
             let _ = results.send((at, tally, start.elapsed()));
         }
     };
-    let (mut count, mut differences) = (0, 0);
     println!("topic       check                              compared  differences  seconds");
     thread::scope(|scope| {
         let (sender, results) = mpsc::channel();
@@ -122,18 +166,13 @@ pub fn run(topics: &[&Topic]) -> u64 {
             waiting.insert(at, (tally, time));
             while let Some((tally, time)) = waiting.remove(&printed) {
                 let (topic, check) = &jobs[printed];
-                print_line(topic, check, &tally, time);
-                count += tally.count;
-                differences += tally.differences;
+                print_line(topics[*topic].name, check, &tally, time);
+                sums[*topic].add(&tally, time);
                 printed += 1;
             }
         }
     });
-    println!(
-        "{} checks, {count} comparisons, {differences} differences",
-        jobs.len()
-    );
-    differences
+    sums
 }
 
 /// The next job that no thread has taken.

@@ -68,7 +68,7 @@ fn with_grid(mut lent: Lent, grid: &Slices) -> Lent {
     lent
 }
 
-fn rust_grid(lists: &Lists) -> Slices {
+pub fn rust_grid(lists: &Lists) -> Slices {
     Slices::new(
         lists,
         &rust::FaceGrid::new(&lists.vertices, &lists.neighbors),
@@ -97,7 +97,7 @@ fn lattices(tally: &mut Tally) {
 }
 
 /// Document 01, row 5, read anew.
-fn row_5(mesh: &Flat) -> bool {
+pub fn row_5(mesh: &Flat) -> bool {
     mesh.positions
         .chunks(3)
         .any(|p| row_9(Vector3::new(p[0], p[1], p[2])))

@@ -78,8 +78,14 @@ impl Call {
             held: &mut vec![0.0; self.places],
         };
         let entries = self.entries_per_vertex;
-        koshirga::renumber(mesh, &mut state.values, &self.permutation, entries, scratch)
-            .map_err(Refusal::number)
+        koshirga::apply_vertex_permutation(
+            mesh,
+            &mut state.values,
+            &self.permutation,
+            entries,
+            scratch,
+        )
+        .map_err(Refusal::number)
     }
 }
 

@@ -1,8 +1,11 @@
 //! Runs both sides on the same inputs and counts the differences.
 //!
-//! Arguments name the topics to run, none means all. One of two words alone does something else:
-//! `cases` writes the inputs that MPFR judges too, `bench` times both sides.
-//! Exit status: 0 no difference, 1 some, 2 an unknown topic or a Rust side that can't be the judge.
+//! Usage: `compare SUMMARY [TOPIC...]`; no topic means all. Each check has its line on standard
+//! output, and each topic's sums have theirs in the file SUMMARY. Three words do something else:
+//! `cases` writes the inputs that MPFR judges too, `bench` times both sides, `record FOLDER` writes
+//! the Rust's answers for the program `replay`, whose crate is in that folder.
+//! Exit status: 0 no difference, 1 some, 2 an unknown topic, a Rust side that can't be the judge, or
+//! a summary that can't be written.
 
 mod analytic;
 mod arithmetic;
@@ -17,13 +20,16 @@ mod meshes;
 mod operands;
 mod patterns;
 mod queries;
+mod record;
 mod renumber;
 mod vectors;
 mod walk;
 mod weights;
 
 use check::Topic;
+use std::fs;
 use std::io::{self, BufWriter, Write};
+use std::path::Path;
 use std::process::ExitCode;
 
 const TOPICS: [Topic; 11] = [
@@ -41,20 +47,25 @@ const TOPICS: [Topic; 11] = [
 ];
 
 fn main() -> ExitCode {
-    let names: Vec<String> = std::env::args().skip(1).collect();
-    match names.iter().map(String::as_str).collect::<Vec<_>>()[..] {
+    let arguments: Vec<String> = std::env::args().skip(1).collect();
+    match &arguments.iter().map(String::as_str).collect::<Vec<_>>()[..] {
         ["cases"] => write_cases(),
         ["bench"] => {
             bench::run();
             ExitCode::SUCCESS
         }
-        _ => compare(&names),
+        ["record", folder] => write_records(folder),
+        [summary, topics @ ..] => compare(summary, topics),
+        [] => {
+            eprintln!("usage: compare SUMMARY [TOPIC...]");
+            ExitCode::from(2)
+        }
     }
 }
 
-fn compare(names: &[String]) -> ExitCode {
+fn compare(summary: &str, names: &[&str]) -> ExitCode {
     for name in names {
-        if !TOPICS.iter().any(|topic| topic.name == name) {
+        if !TOPICS.iter().any(|topic| topic.name == *name) {
             let known = TOPICS.map(|topic| topic.name).join(", ");
             eprintln!("compare: no topic {name}; there are: {known}");
             return ExitCode::from(2);
@@ -64,15 +75,35 @@ fn compare(names: &[String]) -> ExitCode {
         eprintln!("compare: f64::mul_add rounds twice on this machine, so it can't be the judge");
         return ExitCode::from(2);
     }
-    let chosen = |topic: &&Topic| names.is_empty() || names.iter().any(|name| name == topic.name);
+    let chosen = |topic: &&Topic| names.is_empty() || names.contains(&topic.name);
     println!("{}\n{}", points_note(), arithmetic::mul_add_note());
-    let differences = check::run(&TOPICS.iter().filter(chosen).collect::<Vec<_>>());
-    ExitCode::from(u8::from(differences != 0))
+    let sums = check::run(&TOPICS.iter().filter(chosen).collect::<Vec<_>>());
+    let lines: String = sums.iter().map(|sum| format!("{sum}\n")).collect();
+    if let Err(error) = fs::write(summary, lines) {
+        eprintln!("compare: {summary}: {error}");
+        return ExitCode::from(2);
+    }
+    let differ = sums.iter().any(|sum| sum.differences != 0);
+    ExitCode::from(u8::from(differ))
 }
 
 fn write_cases() -> ExitCode {
     let mut out = BufWriter::new(io::stdout().lock());
     match arithmetic::write_cases(&mut out).and_then(|()| out.flush()) {
+        Ok(()) => ExitCode::SUCCESS,
+        Err(error) => {
+            eprintln!("compare: {error}");
+            ExitCode::FAILURE
+        }
+    }
+}
+
+fn write_records(folder: &str) -> ExitCode {
+    if !arithmetic::rust_is_fused() {
+        eprintln!("compare: f64::mul_add rounds twice on this machine, so it can't be recorded");
+        return ExitCode::from(2);
+    }
+    match record::write(Path::new(folder)) {
         Ok(()) => ExitCode::SUCCESS,
         Err(error) => {
             eprintln!("compare: {error}");

@@ -14,7 +14,7 @@ pub struct Lists {
 }
 
 /// The same as flat slices.
-#[derive(Clone, Debug, PartialEq)]
+#[derive(Clone, Debug, Default, PartialEq)]
 pub struct Flat {
     pub positions: Vec<f64>,
     pub starts: Vec<u32>,

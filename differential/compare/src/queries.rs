@@ -69,9 +69,9 @@ impl Slices {
 }
 
 /// What both queries are to answer.
-struct Answers {
-    nearest: Result<Nearest, u32>,
-    located: Result<Located, u32>,
+pub struct Answers {
+    pub nearest: Result<Nearest, u32>,
+    pub located: Result<Located, u32>,
 }
 
 fn located(face: [usize; 3], [u, v, w]: [f64; 3]) -> Located {
@@ -85,7 +85,7 @@ fn located(face: [usize; 3], [u, v, w]: [f64; 3]) -> Located {
 
 /// By the Rust's answers; the distance and the count, which it keeps to itself, are worked out
 /// from its grid.
-fn rust_answers(slices: &Slices, grid: &rust::FaceGrid, v: Vector3) -> Answers {
+pub fn rust_answers(slices: &Slices, grid: &rust::FaceGrid, v: Vector3) -> Answers {
     let refused = |number| Answers {
         nearest: Err(number),
         located: Err(number),
@@ -165,7 +165,7 @@ fn directions(tally: &mut Tally, parity: usize) {
 /// both start lists (3), the direction (9); then in its cell a part that falls or runs past the
 /// ids (3), emptiness (11), an id (4); for a triangle the same at the nearest vertex (3, 4), then
 /// 12."
-fn answers_by_the_text(slices: &Slices, v: Vector3) -> Answers {
+pub fn answers_by_the_text(slices: &Slices, v: Vector3) -> Answers {
     match nearest_by_the_text(slices, v) {
         Err(number) => Answers {
             nearest: Err(number),
@@ -241,7 +241,7 @@ fn located_by_the_text(slices: &Slices, v: Vector3, nearest: usize) -> Result<Lo
 }
 
 /// Up to three changes of a slice, the side or a position.
-fn damage(random: &mut Random, slices: &mut Slices) {
+pub fn damage(random: &mut Random, slices: &mut Slices) {
     let count = slices.positions.len() / 3;
     let some = |random: &mut Random, length: usize| random.below(length as u64) as usize;
     for _ in 0..random.below(4) {

@@ -23,9 +23,9 @@ pub fn checks() -> Vec<Check> {
 
 /// Mesh and data.
 #[derive(Clone, Debug)]
-struct State {
-    mesh: Flat,
-    values: Vec<f64>,
+pub struct State {
+    pub mesh: Flat,
+    pub values: Vec<f64>,
 }
 
 impl State {
@@ -39,7 +39,7 @@ impl State {
             && bits(&self.values, &other.values)
     }
 
-    fn longest(&self, permutation: &[u32]) -> usize {
+    pub fn longest(&self, permutation: &[u32]) -> usize {
         let mesh = &self.mesh;
         let lengths = [
             mesh.positions.len(),
@@ -94,12 +94,12 @@ fn renumber(state: &mut State, permutation: &[u32], each: usize, room: &mut Room
         done: &mut room.done,
         held: &mut room.held,
     };
-    koshirga::renumber(mesh, &mut state.values, permutation, each, scratch)
+    koshirga::apply_vertex_permutation(mesh, &mut state.values, permutation, each, scratch)
         .err()
         .map(Refusal::number)
 }
 
-fn rust_renumbered(state: &State, permutation: &[usize], each: usize) -> State {
+pub fn rust_renumbered(state: &State, permutation: &[usize], each: usize) -> State {
     let mut lists = Lists {
         vertices: state
             .mesh
@@ -223,7 +223,7 @@ fn random_meshes(tally: &mut Tally) {
     }
 }
 
-fn is_permutation(count: usize, permutation: &[u32]) -> bool {
+pub fn is_permutation(count: usize, permutation: &[u32]) -> bool {
     let mut sorted = permutation.to_vec();
     sorted.sort_unstable();
     sorted.iter().copied().eq(0..count as u32)

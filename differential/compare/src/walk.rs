@@ -20,17 +20,17 @@ pub fn checks() -> Vec<Check> {
 }
 
 /// What a call leaves: its answer and both slices.
-type Outcome = (Result<u32, u32>, Vec<u32>, Vec<u32>);
+pub type Outcome = (Result<u32, u32>, Vec<u32>, Vec<u32>);
 
 fn walked(mesh: &Flat, order_places: usize, queue_places: usize) -> Outcome {
     let (mut order, mut queue) = (vec![BEFORE; order_places], vec![BEFORE; queue_places]);
-    let answer = koshirga::walk(mesh.as_mesh(), &mut order, &mut queue);
+    let answer = koshirga::bfs_vertex_permutation(mesh.as_mesh(), &mut order, &mut queue);
     (answer.map_err(Refusal::number), order, queue)
 }
 
 /// From the Rust's order: the queue holds the reached ids by their new ids; the entries read are
 /// those of the reached ids' lists. Surplus places are untouched.
-fn rust_outcome(neighbors: &[Vec<u16>], order_places: usize, queue_places: usize) -> Outcome {
+pub fn rust_outcome(neighbors: &[Vec<u16>], order_places: usize, queue_places: usize) -> Outcome {
     let new_of_old = rust::bfs_vertex_permutation(neighbors);
     let (mut order, mut queue) = (vec![BEFORE; order_places], vec![BEFORE; queue_places]);
     let mut read = 0;

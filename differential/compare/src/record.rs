@@ -1,0 +1,707 @@
+//! The Rust's answers as records, for the program `replay`, which holds the engine to them where the
+//! source is not at hand. `crates/replay/README.md` says what the words of a record are.
+
+use crate::analytic::{rust_answer, Answer, Classifier};
+use crate::directions::{row_9, rust_of, Directions};
+use crate::grids::{row_5, rust_grid};
+use crate::meshes::{permutation, Flat, Lattice, Lists, FREQUENCIES};
+use crate::operands::{Class, RADICANDS, TRIPLES};
+use crate::patterns::{Patterns, Random};
+use crate::queries::{self, Answers, Slices};
+use crate::renumber::{self, State};
+use crate::walk;
+use icotable_oracle as rust;
+use koshirga::{Located, Nearest, Vector3};
+use std::path::Path;
+use std::{fs, io};
+
+/// Cases of a class of operands that are gone through, and how many of them one is taken.
+const CLASS_CASES: usize = 110_000;
+const CLASS_STEP: usize = 547;
+/// Random patterns, and pairs of them.
+const PATTERNS: usize = 2000;
+/// The last frequencies whose lattices are written out, and whose grids are hashed.
+const WHOLE_UP_TO: usize = 4;
+const GRIDS_UP_TO: usize = 60;
+/// Frequencies whose locators are asked, and the directions of each.
+const LOCATORS: [usize; 5] = [1, 2, 3, 7, 20];
+const DIRECTIONS: usize = 300;
+/// Directions of each rare kind.
+const RARE: usize = 5;
+/// Random meshes, calls of the renumbering and grids: half of them are damaged.
+const MESHES: usize = 300;
+const RENUMBERINGS: usize = 200;
+const GRIDS: usize = 200;
+/// Directions of a random grid.
+const QUERIES: usize = 6;
+
+/// What stands in lent places before a call.
+const F64_BEFORE: f64 = 1.5;
+const U32_BEFORE: u32 = 0xdead_beef;
+const U16_BEFORE: u16 = 0xbeef;
+
+/// A record being written: words with one space between them.
+#[derive(Default)]
+struct Record(String);
+
+impl Record {
+    fn word(mut self, word: &str) -> Self {
+        if !self.0.is_empty() {
+            self.0.push(' ');
+        }
+        self.0.push_str(word);
+        self
+    }
+
+    fn number(self, number: impl Into<u64>) -> Self {
+        self.word(&format!("{:x}", number.into()))
+    }
+
+    fn length(self, length: usize) -> Self {
+        self.number(length as u64)
+    }
+
+    /// Every NaN is the same word.
+    fn double(self, x: f64) -> Self {
+        if x.is_nan() {
+            self.word("nan")
+        } else {
+            self.number(x.to_bits())
+        }
+    }
+
+    fn numbers<T: Copy + Into<u64>>(self, list: &[T]) -> Self {
+        list.iter().fold(self, |record, &x| record.number(x))
+    }
+
+    fn doubles(self, list: &[f64]) -> Self {
+        list.iter().fold(self, |record, &x| record.double(x))
+    }
+
+    fn lengths(self, lengths: &[usize]) -> Self {
+        lengths
+            .iter()
+            .fold(self, |record, &length| record.length(length))
+    }
+
+    fn direction(self, v: Vector3) -> Self {
+        self.doubles(&[v.x, v.y, v.z])
+    }
+
+    fn analytic(self, answer: &Answer) -> Self {
+        match answer {
+            Ok((ids, w)) => self.number(0u32).numbers(ids).doubles(&[w.u, w.v, w.w]),
+            Err(number) => self.number(*number).numbers(&[0u32; 6]),
+        }
+    }
+
+    fn vertex(self, answer: Result<u32, u32>) -> Self {
+        match answer {
+            Ok(id) => self.number(0u32).number(id),
+            Err(number) => self.number(number).number(0u32),
+        }
+    }
+
+    fn answers(self, answers: &Answers) -> Self {
+        let nearest = match &answers.nearest {
+            Ok(Nearest {
+                id,
+                candidates,
+                distance,
+            }) => self.numbers(&[0, *id, *candidates]).double(*distance),
+            Err(number) => self.numbers(&[*number, 0, 0, 0]),
+        };
+        match &answers.located {
+            Ok(Located {
+                triple,
+                weights: w,
+                least,
+            }) => nearest
+                .number(0u32)
+                .numbers(triple)
+                .doubles(&[w.u, w.v, w.w, *least]),
+            Err(number) => nearest.number(*number).numbers(&[0u32; 7]),
+        }
+    }
+}
+
+/// FNV-1a, 64 bits.
+fn hash<const N: usize>(elements: impl Iterator<Item = [u8; N]>) -> u64 {
+    elements
+        .flatten()
+        .fold(0xcbf2_9ce4_8422_2325, |hash, byte| {
+            (hash ^ u64::from(byte)).wrapping_mul(0x100_0000_01b3)
+        })
+}
+
+fn hash_f64s(list: &[f64]) -> u64 {
+    hash(list.iter().map(|x| x.to_bits().to_le_bytes()))
+}
+
+fn hash_u32s(list: &[u32]) -> u64 {
+    hash(list.iter().map(|x| x.to_le_bytes()))
+}
+
+fn hash_u16s(list: &[u16]) -> u64 {
+    hash(list.iter().map(|x| x.to_le_bytes()))
+}
+
+/// The records of a file.
+type Records = Vec<Record>;
+
+/// All files in the order in which the program reads them, written below a folder, with what the
+/// program is to print.
+pub fn write(folder: &Path) -> io::Result<()> {
+    let mut files: Vec<(String, Records)> = [
+        ("mul_add", mul_add as fn() -> Records),
+        ("sqrt", sqrt),
+        ("integral", integral),
+        ("total_order", total_order),
+        ("face_choices", face_choices),
+        ("analytic_queries", analytic_queries),
+        ("lattices", lattices),
+        ("lattice_hashes", lattice_hashes),
+        ("grid_hashes", grid_hashes),
+        ("meshes", meshes),
+        ("renumberings", renumberings),
+        ("grid_queries", grid_queries),
+    ]
+    .map(|(name, records)| (name.to_string(), records()))
+    .into();
+    files.extend(LOCATORS.map(|frequency| (format!("locators_{frequency}"), locators(frequency))));
+    let mut printed = String::new();
+    fs::create_dir_all(folder.join("data"))?;
+    for (name, records) in &files {
+        let text: String = records
+            .iter()
+            .map(|record| record.0.clone() + "\n")
+            .collect();
+        fs::write(folder.join("data").join(name), &text)?;
+        printed += &format!("{name}: {} records, 0 differences\n", records.len());
+        println!("{name}: {} records, {} bytes", records.len(), text.len());
+    }
+    fs::write(folder.join("stdout"), printed)
+}
+
+/// Cases from all over each class.
+fn operands<const N: usize>(classes: &[Class<N>]) -> Vec<[f64; N]> {
+    let mut taken = Vec::new();
+    for class in classes {
+        let mut at = 0;
+        class.each(CLASS_CASES.min(class.count), |operands| {
+            if at % CLASS_STEP == 0 {
+                taken.push(operands);
+            }
+            at += 1;
+        });
+    }
+    taken
+}
+
+fn mul_add() -> Records {
+    operands(TRIPLES)
+        .into_iter()
+        .map(|[a, b, c]| Record::default().doubles(&[a, b, c, a.mul_add(b, c)]))
+        .collect()
+}
+
+fn sqrt() -> Records {
+    operands(RADICANDS)
+        .into_iter()
+        .map(|[x]| Record::default().doubles(&[x, x.sqrt()]))
+        .collect()
+}
+
+fn integral() -> Records {
+    let mut patterns = Patterns::new(101);
+    let record = |bits| {
+        let x = f64::from_bits(bits);
+        Record::default()
+            .doubles(&[x, x.floor(), x.ceil()])
+            .number(x as i64 as u64)
+    };
+    (0..PATTERNS).map(|_| record(patterns.random())).collect()
+}
+
+fn total_order() -> Records {
+    let mut patterns = Patterns::new(102);
+    let record = |x: u64, y: u64| {
+        let order = f64::from_bits(x).total_cmp(&f64::from_bits(y));
+        Record::default()
+            .numbers(&[x, y])
+            .number((order as i8 + 1) as u64)
+    };
+    (0..PATTERNS)
+        .map(|_| {
+            let bits = patterns.random();
+            record(bits, patterns.beside(bits))
+        })
+        .collect()
+}
+
+/// All 64 cases.
+fn face_choices() -> Records {
+    (0..64u64)
+        .map(|case| {
+            let bits = [5, 4, 3, 2, 1, 0].map(|place| case >> place & 1);
+            let [i, j, k, first, second, third] = bits.map(|bit| bit as usize);
+            let line = rust::FACE_MAPPING[i][j][k];
+            let face = line.get(first + 2 * second + 3 * third);
+            Record::default()
+                .numbers(&bits)
+                .vertex(face.map(|&face| face as u32).ok_or(10))
+        })
+        .collect()
+}
+
+/// Rows 1, 8, 9 and 4, and tables that none of them refuses.
+fn analytic_queries() -> Records {
+    let mut records = Records::new();
+    let mut record = |n: u32, ids: &[u16], v: Vector3, answer: Answer, nearest| {
+        let query = Record::default().number(n).length(ids.len()).numbers(ids);
+        records.push(query.direction(v).analytic(&answer).vertex(nearest));
+    };
+    let direction = Vector3::new(0.25, -0.5, 1.0);
+    for n in [0, 81, u32::MAX] {
+        record(n, &[], Vector3::ZERO, Err(1), Err(1));
+    }
+    for frequency in 1..=2 {
+        let n = frequency as u32;
+        let ids = Lattice::new(frequency).ids;
+        let oracle = rust::AnalyticLattice::new(frequency);
+        let (triple, [u, v, w]) = oracle.locate(&rust_of(direction));
+        let nearest = oracle.find_nearest_vertex(&rust_of(direction));
+        let foreign = 10 * n * n + 2;
+        let is_read = |id: u16| triple.contains(&usize::from(id));
+        // An id is tested where it is read, and nowhere else.
+        let tables: [&dyn Fn(u16) -> u16; 5] = [
+            &|id| id,
+            &|_| foreign as u16 - 1,
+            &|_| foreign as u16,
+            &|id| if is_read(id) { foreign as u16 } else { id },
+            &|id| if is_read(id) { id } else { foreign as u16 },
+        ];
+        for table in tables {
+            let of = |id: usize| u32::from(table(id as u16));
+            let mut lent: Vec<u16> = ids.iter().map(|&id| table(id)).collect();
+            let (answer, nearest) = if triple.iter().any(|&id| of(id) >= foreign) {
+                (Err(4), Err(4))
+            } else {
+                let weights = koshirga::Weights { u, v, w };
+                (Ok((triple.map(of), weights)), Ok(of(nearest)))
+            };
+            record(n, &lent, direction, answer, nearest);
+            record(n, &lent, Vector3::ZERO, Err(9), Err(9));
+            record(n, &lent[1..], direction, Err(8), Err(8));
+            lent.extend([u16::MAX; 3]);
+            record(n, &lent, direction, answer, nearest);
+        }
+        record(n, &[], Vector3::ZERO, Err(8), Err(8));
+    }
+    records
+}
+
+/// `list` written from the front of so many places.
+fn over<T: Copy>(before: T, places: usize, list: &[T]) -> Vec<T> {
+    let surplus = vec![before; places - list.len()];
+    [list, &surplus].concat()
+}
+
+fn needed(mesh: &Flat, ids: &[u16]) -> [usize; 4] {
+    [
+        mesh.positions.len(),
+        mesh.starts.len(),
+        mesh.entries.len(),
+        ids.len(),
+    ]
+}
+
+/// Slices exactly as long as the lattice, longer, and too short; and frequencies that row 1 refuses.
+/// Then the walk of what stands in the slices.
+fn lattices() -> Records {
+    let mut random = Random::new(107);
+    let mut records = Records::new();
+    let mut record = |n: u32, places: [usize; 4], answer: Result<&Lattice, u32>| {
+        let (mesh, ids) = match answer {
+            Ok(lattice) => (lattice.lists.flat(), &lattice.ids[..]),
+            Err(_) => (Flat::default(), &[][..]),
+        };
+        let after = Flat {
+            positions: over(F64_BEFORE, places[0], &mesh.positions),
+            starts: over(U32_BEFORE, places[1], &mesh.starts),
+            entries: over(U16_BEFORE, places[2], &mesh.entries),
+        };
+        let call = Record::default()
+            .number(n)
+            .lengths(&places)
+            .number(answer.err().unwrap_or(0));
+        let left = mesh_words(call, &after).numbers(&over(U16_BEFORE, places[3], ids));
+        records.push(walk_words(&mut random, left, &after));
+    };
+    for n in [0, 81, 82, u32::MAX] {
+        record(n, [50; 4], Err(1));
+        record(n, [0; 4], Err(1));
+    }
+    for frequency in 1..=WHOLE_UP_TO {
+        let n = frequency as u32;
+        let lattice = Lattice::new(frequency);
+        let exact = needed(&lattice.lists.flat(), &lattice.ids);
+        for surplus in [[0; 4], [1, 2, 3, 4], [0, 0, 0, 5]] {
+            record(n, [0, 1, 2, 3].map(|i| exact[i] + surplus[i]), Ok(&lattice));
+        }
+        if frequency <= 2 {
+            for short in 0..4 {
+                let mut places = exact;
+                places[short] -= 1;
+                record(n, places, Err(8));
+            }
+        }
+        record(n, [0; 4], Err(8));
+    }
+    records
+}
+
+fn lattice_hash(frequency: usize, lattice: &Lattice) -> Record {
+    let mesh = lattice.lists.flat();
+    Record::default()
+        .length(frequency)
+        .lengths(&needed(&mesh, &lattice.ids))
+        .number(0u32)
+        .number(hash_f64s(&mesh.positions))
+        .number(hash_u32s(&mesh.starts))
+        .number(hash_u16s(&mesh.entries))
+        .number(hash_u16s(&lattice.ids))
+}
+
+/// All 80 lattices and their walks.
+fn lattice_hashes() -> Records {
+    FREQUENCIES
+        .map(|frequency| {
+            let lattice = Lattice::new(frequency);
+            let count = lattice.lists.vertices.len();
+            let (walk, order, queue) = walk::rust_outcome(&lattice.lists.neighbors, count, count);
+            lattice_hash(frequency, &lattice)
+                .lengths(&[count, count])
+                .numbers(&[walk.err().unwrap_or(0), walk.unwrap_or(0)])
+                .number(hash_u32s(&order))
+                .number(hash_u32s(&queue))
+        })
+        .collect()
+}
+
+fn grid_lengths(grid: &Slices) -> [usize; 4] {
+    [
+        grid.cell_starts.len(),
+        grid.cell_ids.len(),
+        grid.triangle_starts.len(),
+        grid.triples.len(),
+    ]
+}
+
+fn grid_hashes() -> Records {
+    (1..=GRIDS_UP_TO)
+        .map(|frequency| {
+            let lattice = Lattice::new(frequency);
+            let grid = rust_grid(&lattice.lists);
+            lattice_hash(frequency, &lattice)
+                .lengths(&grid_lengths(&grid))
+                .numbers(&[0, grid.side])
+                .number(hash_u32s(&grid.cell_starts))
+                .number(hash_u16s(&grid.cell_ids))
+                .number(hash_u32s(&grid.triangle_starts))
+                .number(hash_u16s(&grid.triples))
+        })
+        .collect()
+}
+
+/// A random mesh of few vertices and entries.
+fn small(random: &mut Random, vertices: usize, entries: usize) -> Lists {
+    loop {
+        let lists = Lists::random(random);
+        let size: usize = lists.neighbors.iter().map(Vec::len).sum();
+        if lists.vertices.len() <= vertices && size <= entries {
+            return lists;
+        }
+    }
+}
+
+fn mesh_words(record: Record, mesh: &Flat) -> Record {
+    record
+        .doubles(&mesh.positions)
+        .numbers(&mesh.starts)
+        .numbers(&mesh.entries)
+}
+
+fn lists_of(mesh: &Flat) -> Lists {
+    Lists {
+        vertices: mesh
+            .positions
+            .chunks(3)
+            .map(|p| [p[0], p[1], p[2]])
+            .collect(),
+        neighbors: walk::lists_of(mesh),
+    }
+}
+
+/// Walk and grid of random meshes. Places are as many as are filled, or some more, or one less.
+fn meshes() -> Records {
+    let mut random = Random::new(103);
+    let mut records = Records::new();
+    for at in 0..MESHES {
+        let mut mesh = small(&mut random, 14, 90).flat();
+        if at % 2 == 1 {
+            for _ in 0..random.below(3) {
+                walk::damage(&mut random, &mut mesh);
+            }
+            if random.below(4) == 0 && !mesh.positions.is_empty() {
+                let at = random.below(mesh.positions.len() as u64) as usize;
+                mesh.positions[at] = [f64::NAN, f64::INFINITY, 1e7, -2e6][random.below(4) as usize];
+            }
+        }
+        let head = Record::default().lengths(&needed(&mesh, &[])[..3]);
+        let record = walk_words(&mut random, mesh_words(head, &mesh), &mesh);
+        records.push(grid_words(&mut random, record, &mesh));
+    }
+    records
+}
+
+/// So many places, or up to two more, or one less.
+fn about(random: &mut Random, places: usize) -> usize {
+    (places + [0, 0, 0, 1, 2, 1, 0, 0][random.below(8) as usize])
+        .saturating_sub(usize::from(random.below(8) == 0))
+}
+
+fn walk_words(random: &mut Random, record: Record, mesh: &Flat) -> Record {
+    let places = [0; 2].map(|_| about(random, mesh.count()));
+    let short = places.iter().any(|&length| length < mesh.count());
+    let (answer, order, queue) = match walk::adjacency_row(mesh).or(short.then_some(8)) {
+        Some(row) => {
+            let [order, queue] = places.map(|length| vec![U32_BEFORE; length]);
+            (Err(row), order, queue)
+        }
+        None => walk::rust_outcome(&walk::lists_of(mesh), places[0], places[1]),
+    };
+    record
+        .lengths(&places)
+        .numbers(&[answer.err().unwrap_or(0), answer.unwrap_or(0)])
+        .numbers(&order)
+        .numbers(&queue)
+}
+
+fn grid_words(random: &mut Random, record: Record, mesh: &Flat) -> Record {
+    let row = walk::adjacency_row(mesh).or_else(|| row_5(mesh).then_some(5));
+    let grid = row.is_none().then(|| rust_grid(&lists_of(mesh)));
+    let exact = grid.as_ref().map_or([20; 4], grid_lengths);
+    let places = exact.map(|length| about(random, length));
+    let short = (0..4).any(|i| places[i] < exact[i]);
+    let row = row.or(short.then_some(8));
+    let written = grid.filter(|_| row.is_none());
+    let [a, b, c, d] = places;
+    record
+        .lengths(&places)
+        .number(row.unwrap_or(0))
+        .number(written.as_ref().map_or(0, |grid| grid.side))
+        .numbers(&over(
+            U32_BEFORE,
+            a,
+            written.as_ref().map_or(&[], |grid| &grid.cell_starts),
+        ))
+        .numbers(&over(
+            U16_BEFORE,
+            b,
+            written.as_ref().map_or(&[], |grid| &grid.cell_ids),
+        ))
+        .numbers(&over(
+            U32_BEFORE,
+            c,
+            written.as_ref().map_or(&[], |grid| &grid.triangle_starts),
+        ))
+        .numbers(&over(
+            U16_BEFORE,
+            d,
+            written.as_ref().map_or(&[], |grid| &grid.triples),
+        ))
+}
+
+/// Lattices by their walks and reversed, with one value a vertex and one a pair; random permutations
+/// of random meshes with data of any length; rows 2, 3, 4, 6, 7 and 8.
+fn renumberings() -> Records {
+    let mut records = Records::new();
+    for (frequency, pairs) in [(1, false), (1, true), (2, false)] {
+        let lists = Lattice::new(frequency).lists;
+        let mesh = lists.flat();
+        let count = mesh.count();
+        let each = if pairs { count } else { 1 };
+        let walk = rust::bfs_vertex_permutation(&lists.neighbors);
+        for order in [walk, (0..count).rev().collect()] {
+            let state = State {
+                values: numbered(count * each + 3),
+                mesh: mesh.clone(),
+            };
+            let ids: Vec<u32> = order.iter().map(|&id| id as u32).collect();
+            let places = [state.longest(&ids); 5];
+            records.push(renumbering(&state, &ids, each, places));
+        }
+    }
+    let mut random = Random::new(104);
+    for at in 0..RENUMBERINGS {
+        records.push(random_renumbering(&mut random, at % 2 == 1));
+    }
+    records
+}
+
+/// Different values.
+fn numbered(length: usize) -> Vec<f64> {
+    (0..length).map(|at| at as f64 - 2.0).collect()
+}
+
+fn random_renumbering(random: &mut Random, damaged: bool) -> Record {
+    let mut mesh = small(random, 8, 60).flat();
+    let count = mesh.count();
+    let mut each = [1, count][random.below(2) as usize];
+    let slab = count * each;
+    let length = random.below(3) as usize * slab + random.below(slab as u64 + 2) as usize;
+    let mut ids: Vec<u32> = permutation(random, count)
+        .into_iter()
+        .map(|id| id as u32)
+        .collect();
+    if damaged {
+        match random.below(6) {
+            0 | 1 => walk::damage(random, &mut mesh),
+            2 => drop(ids.pop()),
+            3 => ids[0] = random.below(2 * count as u64) as u32,
+            4 => each = random.below(2 + count as u64) as usize,
+            _ => (),
+        }
+    }
+    let state = State {
+        values: numbered(length),
+        mesh,
+    };
+    let mut places = [state.longest(&ids); 5];
+    if damaged && random.below(2) == 0 {
+        places[random.below(5) as usize] -= 1;
+    }
+    renumbering(&state, &ids, each, places)
+}
+
+fn renumbering(state: &State, ids: &[u32], each: usize, places: [usize; 5]) -> Record {
+    let count = state.mesh.count();
+    let longest = state.longest(ids);
+    let row = walk::adjacency_row(&state.mesh)
+        .or((!renumber::is_permutation(count, ids)).then_some(6))
+        .or((each != 1 && each != count).then_some(7))
+        .or(places.iter().any(|&room| room < longest).then_some(8));
+    let after = match row {
+        Some(_) => state.clone(),
+        None => {
+            let order: Vec<usize> = ids.iter().map(|&id| id as usize).collect();
+            renumber::rust_renumbered(state, &order, each)
+        }
+    };
+    let head = Record::default()
+        .lengths(&needed(&state.mesh, &[])[..3])
+        .lengths(&[state.values.len(), ids.len()]);
+    let call = mesh_words(head, &state.mesh)
+        .doubles(&state.values)
+        .numbers(ids)
+        .length(each)
+        .lengths(&places)
+        .number(row.unwrap_or(0));
+    mesh_words(call, &after.mesh).doubles(&after.values)
+}
+
+/// Queries of random grids. A damaged grid's answers are those of document 01's checks, as the Rust
+/// makes none; also where the nearest vertex has no triangle, for which the Rust has no answer.
+fn grid_queries() -> Records {
+    let mut random = Random::new(105);
+    let mut records = Records::new();
+    while records.len() < GRIDS {
+        let lists = small(&mut random, 14, 90);
+        let without_neighbours = lists.neighbors.iter().any(Vec::is_empty);
+        if without_neighbours || row_5(&lists.flat()) {
+            continue;
+        }
+        let grid = rust::FaceGrid::new(&lists.vertices, &lists.neighbors);
+        let mut slices = Slices::new(&lists, &grid);
+        let damaged = records.len() % 2 == 1;
+        if damaged {
+            queries::damage(&mut random, &mut slices);
+        }
+        let mut inputs = Directions::new(106 + records.len() as u64, &lists);
+        let mut record = Record::default()
+            .length(slices.positions.len())
+            .lengths(&grid_lengths(&slices))
+            .number(slices.side)
+            .doubles(&slices.positions)
+            .numbers(&slices.cell_starts)
+            .numbers(&slices.cell_ids)
+            .numbers(&slices.triangle_starts)
+            .numbers(&slices.triples)
+            .length(QUERIES);
+        for _ in 0..QUERIES {
+            let v = inputs.direction();
+            let text = queries::answers_by_the_text(&slices, v);
+            let answers = if damaged || text.located.is_err() {
+                text
+            } else {
+                queries::rust_answers(&slices, &grid, v)
+            };
+            record = record.direction(v).answers(&answers);
+        }
+        records.push(record);
+    }
+    records
+}
+
+/// Lattice and grid, then directions: the answers of both locators. No weight is NaN, as then the
+/// Rust's nearest vertex depends on the bits of a NaN.
+fn locators(frequency: usize) -> Records {
+    let lattice = Lattice::new(frequency);
+    let mesh = lattice.lists.flat();
+    let grid = rust::FaceGrid::new(&lattice.lists.vertices, &lattice.lists.neighbors);
+    let slices = Slices::new(&lattice.lists, &grid);
+    let oracle = rust::AnalyticLattice::new(frequency);
+    let classifier = Classifier::new(&oracle);
+    let mut inputs = Directions::new(400 + frequency as u64, &lattice.lists);
+    let mut records = vec![Record::default()
+        .length(frequency)
+        .lengths(&needed(&mesh, &lattice.ids))
+        .number(0u32)
+        .lengths(&grid_lengths(&slices))
+        .numbers(&[0, slices.side])];
+    let mut record = |v: Vector3| {
+        let located = rust_answer(&oracle, &classifier, v);
+        let nearest = match located {
+            Err(number) => Err(number),
+            Ok((_, w)) if [w.u, w.v, w.w].iter().any(|weight| weight.is_nan()) => return,
+            Ok(_) => Ok(oracle.find_nearest_vertex(&rust_of(v)) as u32),
+        };
+        let answers = queries::rust_answers(&slices, &grid, v);
+        records.push(
+            Record::default()
+                .direction(v)
+                .analytic(&located)
+                .vertex(nearest)
+                .answers(&answers),
+        );
+    };
+    for _ in 0..DIRECTIONS {
+        record(inputs.direction());
+    }
+    // Row 10, and the sum 3 by the flags 1 and 2, are rare.
+    let (mut refused, mut two_flags) = (0, 0);
+    while refused < RARE || two_flags < RARE {
+        let v = inputs.near_an_icosahedron_vertex();
+        if row_9(v) {
+            continue;
+        }
+        match classifier.flag_sum(&rust_of(v)) {
+            (4.., _) if refused < RARE => refused += 1,
+            (3, [true, true, false]) if two_flags < RARE => two_flags += 1,
+            _ => continue,
+        }
+        record(v);
+    }
+    records
+}

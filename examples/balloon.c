@@ -1,0 +1,253 @@
+/* A balloon over koshirga.h: the levels of a loudspeaker at the vertices of a lattice, and the
+ * level in any direction.
+ *
+ * Usage: balloon [X Y Z]      the direction, of any length from 2^-20 to 2^20; default 1 0.5 0.25
+ *
+ * The steps are those of a real program: make the lattice and attach a level to each vertex;
+ * renumber both in breadth-first order, so that neighbours lie close in memory; build the grid; ask
+ * it. The analytic locator, which needs no grid and knows the lattice's own numbering alone, is
+ * asked before. Its weights differ a little from the grid's: it projects radially, while the grid's
+ * are those of the triangle's closest point. Every call says by a number whether it was refused;
+ * accepted() turns that into a message. */
+#include <math.h>
+#include <stdio.h>
+#include <stdlib.h>
+
+#include "koshirga.h"
+
+enum { FREQUENCY = 20 };
+
+/* ---- what every program needs */
+
+/* The rows of document 01's table, by number. */
+static const char *const REFUSALS[] = {
+    [1] = "the frequency is below 1 or above 80",
+    [2] = "no vertex, over 65536 of them, positions not three a vertex, or a side that isn't the "
+          "count's",
+    [3] = "the starts have a wrong length, fall, run past their list, or make a list of over 32",
+    [4] = "an id is not below the vertex count",
+    [5] = "a position isn't finite, or its squared length is outside 2^-40..2^40",
+    [6] = "not a permutation of the ids",
+    [7] = "the entries a vertex are neither 1 nor the vertex count",
+    [8] = "a slice is too short",
+    [9] = "the direction isn't finite, or its squared length is outside 2^-40..2^40",
+    [10] = "the outside flags sum to over 3: a long direction close to an icosahedron vertex",
+    [11] = "no vertex is in the direction's cell",
+    [12] = "no triangle at the nearest vertex has a least weight",
+    [13] = "the mesh is not connected",
+};
+
+/* Ends the program where a call was refused. */
+static void accepted(const char *call, uint32_t refusal) {
+    size_t rows = sizeof REFUSALS / sizeof *REFUSALS;
+    if (refusal == 0)
+        return;
+    fprintf(stderr, "balloon: %s is refused (%u): %s\n", call, (unsigned)refusal,
+            refusal < rows ? REFUSALS[refusal] : "an unknown row");
+    exit(1);
+}
+
+/* Room for a slice; never null, as koshirga.h asks, and of at least one element. */
+static void *room(size_t count, size_t size) {
+    void *slice = calloc(count > 0 ? count : 1, size);
+    if (!slice) {
+        fprintf(stderr, "balloon: no memory\n");
+        exit(1);
+    }
+    return slice;
+}
+
+/* A mesh with its id table and one level a vertex. */
+typedef struct balloon {
+    size_t vertices, entries, ids;
+    double *positions; /* three a vertex */
+    uint32_t *starts;  /* vertices + 1 */
+    uint16_t *neighbours;
+    uint16_t *table; /* for the analytic locator */
+    double *levels;
+} balloon;
+
+/* A cube grid, its slices cut to the lengths that a query asks for. */
+typedef struct cube_grid {
+    uint32_t side;
+    size_t cell_starts_length, cell_ids_length, triangle_starts_length, triples_length;
+    uint32_t *cell_starts, *triangle_starts;
+    uint16_t *cell_ids, *triples;
+} cube_grid;
+
+/* ---- the steps */
+
+/* Sound pressure level in dB of a cardioid that faces +x, 94 dB on its axis, with a floor of 54 dB.
+ */
+static double cardioid_level(koshirga_vector3 unit) {
+    double pressure = 0.5 + 0.5 * unit.x;
+    return 94 + 20 * log10(fmax(pressure, 0.01));
+}
+
+static balloon make_balloon(uint32_t frequency) {
+    size_t n = frequency;
+    balloon b = {.vertices = 10 * n * n + 2, .entries = 60 * n * n, .ids = 10 * (n + 1) * (n + 2)};
+    b.positions = room(3 * b.vertices, sizeof *b.positions);
+    b.starts = room(b.vertices + 1, sizeof *b.starts);
+    b.neighbours = room(b.entries, sizeof *b.neighbours);
+    b.table = room(b.ids, sizeof *b.table);
+    b.levels = room(b.vertices, sizeof *b.levels);
+    accepted("the lattice",
+             koshirga_lattice(frequency, b.positions, 3 * b.vertices, b.starts, b.vertices + 1,
+                              b.neighbours, b.entries, b.table, b.ids));
+    for (size_t v = 0; v < b.vertices; v++) {
+        const double *p = b.positions + 3 * v;
+        b.levels[v] = cardioid_level((koshirga_vector3){p[0], p[1], p[2]});
+    }
+    return b;
+}
+
+/* Renumbers mesh and levels in walk order. Returns the new id of each old one. */
+static uint32_t *renumber_by_walk(balloon *b) {
+    uint32_t *order = room(b->vertices, sizeof *order);
+    uint32_t *queue = room(b->vertices, sizeof *queue);
+    koshirga_walk_answer walk =
+        koshirga_walk(b->positions, 3 * b->vertices, b->starts, b->vertices + 1, b->neighbours,
+                      b->entries, order, b->vertices, queue, b->vertices);
+    accepted("the walk", walk.refusal);
+
+    /* Each scratch slice is as long as the longest slice of the call. */
+    size_t longest = b->entries > 3 * b->vertices ? b->entries : 3 * b->vertices;
+    uint32_t *sources = room(longest, sizeof *sources);
+    uint32_t *old_starts = room(longest, sizeof *old_starts);
+    uint16_t *old_entries = room(longest, sizeof *old_entries);
+    uint8_t *done = room(longest, sizeof *done);
+    double *held = room(longest, sizeof *held);
+    accepted("the renumbering",
+             koshirga_renumber(b->positions, 3 * b->vertices, b->starts, b->vertices + 1,
+                               b->neighbours, b->entries, b->levels, b->vertices, order,
+                               b->vertices, 1, sources, longest, old_starts, longest, old_entries,
+                               longest, done, longest, held, longest));
+    free(queue);
+    free(sources);
+    free(old_starts);
+    free(old_entries);
+    free(done);
+    free(held);
+    return order;
+}
+
+static cube_grid make_grid(const balloon *b) {
+    /* The side, by document 01: the ceiling of root(count/6) * 1.2, at least 2. */
+    double side = koshirga_ceil(koshirga_sqrt((double)b->vertices / 6) * 1.2);
+    cube_grid g = {.side = side < 2 ? 2 : (uint32_t)side};
+    g.cell_starts_length = 6 * (size_t)g.side * g.side + 1;
+    g.triangle_starts_length = b->vertices + 1;
+    size_t ids_room = 27 * b->vertices;   /* three faces, nine cells each, at most */
+    size_t triples_room = 3 * b->entries; /* of a lattice: 60n^2 triples */
+    g.cell_starts = room(g.cell_starts_length, sizeof *g.cell_starts);
+    g.cell_ids = room(ids_room, sizeof *g.cell_ids);
+    g.triangle_starts = room(g.triangle_starts_length, sizeof *g.triangle_starts);
+    g.triples = room(triples_room, sizeof *g.triples);
+    koshirga_build_answer built = koshirga_build_grid(
+        b->positions, 3 * b->vertices, b->starts, b->vertices + 1, b->neighbours, b->entries,
+        g.cell_starts, g.cell_starts_length, g.cell_ids, ids_room, g.triangle_starts,
+        g.triangle_starts_length, g.triples, triples_room);
+    accepted("the grid", built.refusal);
+    /* What is behind the last part was not filled. */
+    g.cell_ids_length = g.cell_starts[g.cell_starts_length - 1];
+    g.triples_length = 3 * (size_t)g.triangle_starts[g.triangle_starts_length - 1];
+    return g;
+}
+
+/* ---- what is printed */
+
+static void print_location(const uint32_t ids[3], const double weights[3], const double levels[3]) {
+    double level = 0, sum = 0;
+    printf("    vertex    weight     level\n");
+    for (int i = 0; i < 3; i++) {
+        printf("    %6u  %8.6f  %5.2f dB\n", (unsigned)ids[i], weights[i], levels[i]);
+        level += weights[i] * levels[i];
+        sum += weights[i];
+    }
+    if (fabs(sum - 1) < 1e-6)
+        printf("    interpolated level  %5.2f dB\n", level);
+    else
+        printf("    the weights sum to %g and not to 1: see docs/DIFFERENCES.md\n", sum);
+}
+
+static koshirga_analytic_answer ask_analytic(const balloon *b, koshirga_vector3 direction) {
+    koshirga_analytic_answer at = koshirga_analytic_locate(FREQUENCY, b->table, b->ids, direction);
+    accepted("the analytic location", at.refusal);
+    koshirga_vertex_answer nearest =
+        koshirga_analytic_nearest(FREQUENCY, b->table, b->ids, direction);
+    accepted("the analytic nearest vertex", nearest.refusal);
+    printf("analytic, in the lattice's numbering\n");
+    print_location(
+        (const uint32_t[]){at.first, at.second, at.third}, (const double[]){at.u, at.v, at.w},
+        (const double[]){b->levels[at.first], b->levels[at.second], b->levels[at.third]});
+    printf("    nearest vertex %u, %.2f dB\n\n", (unsigned)nearest.id, b->levels[nearest.id]);
+    return at;
+}
+
+static void ask_grid(const balloon *b, const cube_grid *g, koshirga_vector3 direction) {
+    koshirga_located_answer at = koshirga_grid_locate(
+        b->positions, 3 * b->vertices, g->side, g->cell_starts, g->cell_starts_length, g->cell_ids,
+        g->cell_ids_length, g->triangle_starts, g->triangle_starts_length, g->triples,
+        g->triples_length, direction);
+    accepted("the location", at.refusal);
+    koshirga_nearest_answer nearest = koshirga_grid_nearest(
+        b->positions, 3 * b->vertices, g->side, g->cell_starts, g->cell_starts_length, g->cell_ids,
+        g->cell_ids_length, g->triangle_starts, g->triangle_starts_length, direction);
+    accepted("the nearest vertex", nearest.refusal);
+    printf("grid of side %u, in walk order\n", (unsigned)g->side);
+    print_location(
+        (const uint32_t[]){at.first, at.second, at.third}, (const double[]){at.u, at.v, at.w},
+        (const double[]){b->levels[at.first], b->levels[at.second], b->levels[at.third]});
+    printf("    least weight        %8.6f\n", at.least);
+    printf("    nearest vertex %u, %.2f dB, at distance %.4f, of %u candidates\n",
+           (unsigned)nearest.id, b->levels[nearest.id], koshirga_sqrt(nearest.distance),
+           (unsigned)nearest.candidates);
+}
+
+static double number(const char *text) {
+    char *end;
+    double x = strtod(text, &end);
+    if (end == text || *end != '\0') {
+        fprintf(stderr, "balloon: not a number: %s\n", text);
+        exit(2);
+    }
+    return x;
+}
+
+int main(int argc, char **argv) {
+    koshirga_vector3 direction = {1, 0.5, 0.25};
+    if (argc == 4) {
+        direction = (koshirga_vector3){number(argv[1]), number(argv[2]), number(argv[3])};
+    } else if (argc != 1) {
+        fprintf(stderr, "usage: balloon [X Y Z]\n");
+        return 2;
+    }
+    accepted("the direction", koshirga_direction(direction));
+
+    balloon b = make_balloon(FREQUENCY);
+    printf("lattice of frequency %d: %zu vertices\n", FREQUENCY, b.vertices);
+    printf("direction (%g, %g, %g): %.2f dB by the formula itself\n\n", direction.x, direction.y,
+           direction.z, cardioid_level(koshirga_normalize(direction)));
+    koshirga_analytic_answer analytic = ask_analytic(&b, direction);
+
+    uint32_t *order = renumber_by_walk(&b);
+    cube_grid g = make_grid(&b);
+    ask_grid(&b, &g, direction);
+    /* The id table keeps the lattice's numbering: its answers are taken through the walk's order.
+     */
+    printf("    the analytic triple in walk order: %u %u %u\n", (unsigned)order[analytic.first],
+           (unsigned)order[analytic.second], (unsigned)order[analytic.third]);
+
+    free(order);
+    free(b.positions);
+    free(b.starts);
+    free(b.neighbours);
+    free(b.table);
+    free(b.levels);
+    free(g.cell_starts);
+    free(g.cell_ids);
+    free(g.triangle_starts);
+    free(g.triples);
+    return 0;
+}

@@ -1,0 +1,358 @@
+#include "draw.h"
+
+#include <math.h>
+#include <string.h>
+
+typedef koshirga_vector3 vector;
+
+#define ELEMENTS(table) ((uint32_t)(sizeof(table) / sizeof *(table)))
+
+draw draw_from(const uint8_t *bytes, size_t length) {
+    uint64_t hash = UINT64_C(0xcbf29ce484222325); /* FNV-1a */
+    for (size_t i = 0; i < length; i++)
+        hash = (hash ^ bytes[i]) * UINT64_C(0x100000001b3);
+    return (draw){bytes, length, 0, hash};
+}
+
+/* splitmix64 */
+uint64_t any_bits(draw *d) {
+    uint64_t z = d->state += UINT64_C(0x9e3779b97f4a7c15);
+    z = (z ^ z >> 30) * UINT64_C(0xbf58476d1ce4e5b9);
+    z = (z ^ z >> 27) * UINT64_C(0x94d049bb133111eb);
+    return z ^ z >> 31;
+}
+
+uint32_t below(draw *d, uint32_t n) {
+    if (d->at == d->length)
+        return (uint32_t)((any_bits(d) >> 32) * n >> 32);
+    uint64_t value = 0, range = 1;
+    while (range < n && d->at < d->length) { /* as many bytes as n has */
+        value = value << 8 | d->bytes[d->at++];
+        range <<= 8;
+    }
+    return (uint32_t)(value % n);
+}
+
+bool one_in(draw *d, uint32_t n) { return below(d, n) == 0; }
+
+/* ---- numbers */
+
+double signed_unit(draw *d) { return (double)(int64_t)any_bits(d) * 0x1p-63; }
+
+static double special(draw *d) {
+    static const double TABLE[] = {
+        0.0, 1.0, 0.5, 1.5, 2.25, 1e-12, 0x1p20, 0x1p-20, 0x1p40, 0x1p-40, 0x1p52, 0x1p53, 0x1p63,
+        0x1p511, 0x1p-537, 0x1p-1022, 0x1p-1074, 0x1.0000000000001p0, 0x1.fffffffffffffp-1,
+        0x1.6a09e667f3bcdp19, 0x1.fffffffffffffp62, 0x1.fffffffffffffp1023, INFINITY, NAN};
+    static const uint64_t NANS[] = {0x7ff0000000000001, 0x7ff8000000000000, 0x7fffffffffffffff,
+                                    0xfff0000000000001, 0xfff8000000000001};
+    uint32_t which = below(d, 2 * ELEMENTS(TABLE) + ELEMENTS(NANS));
+    if (which < 2 * ELEMENTS(TABLE))
+        return which % 2 ? -TABLE[which / 2] : TABLE[which / 2];
+    return from_bits(NANS[which - 2 * ELEMENTS(TABLE)]);
+}
+
+double any_double(draw *d) {
+    switch (below(d, 8)) {
+    case 0: return special(d);
+    case 1: return from_bits(any_bits(d));
+    case 2: return (double)below(d, 9) - 4;
+    case 3: return (double)below(d, 65536) / 2 - 16384;
+    case 4: return ldexp(signed_unit(d), (int)below(d, 60) - 30);
+    case 5: return ldexp(signed_unit(d), (int)below(d, 2160) - 1080);
+    case 6: { /* some ulps beside a special value */
+        uint64_t bits = bits_of(special(d));
+        return from_bits(bits + below(d, 7) - 3);
+    }
+    default: return signed_unit(d);
+    }
+}
+
+vector any_vector(draw *d) {
+    switch (below(d, 4)) {
+    case 0: return (vector){any_double(d), any_double(d), any_double(d)};
+    case 1: return any_direction(d);
+    default: return (vector){signed_unit(d), signed_unit(d), signed_unit(d)};
+    }
+}
+
+static vector lattice_point(draw *d) {
+    const lattice *l = lattice_of(1 + below(d, 4));
+    const double *p = l->positions + 3 * below(d, (uint32_t)l->vertices);
+    return (vector){p[0], p[1], p[2]};
+}
+
+/* The squared length is at an end of rows 5 and 9, or just beyond it. */
+static vector at_an_end(draw *d) {
+    double length = one_in(d, 2) ? 0x1p20 : 0x1p-20;
+    vector v = {0, 0, 0};
+    double *part[3] = {&v.x, &v.y, &v.z};
+    *part[below(d, 3)] = from_bits(bits_of(one_in(d, 2) ? length : -length) + below(d, 5) - 2);
+    if (one_in(d, 2))
+        v = expected_scale(lattice_point(d), length);
+    return v;
+}
+
+/* About an icosahedron vertex. Long ones, off by no more than some ulps, have flag sums above 3. */
+static vector about_a_corner(draw *d) {
+    const double *p = lattice_of(1)->positions + 3 * below(d, 12);
+    double off = one_in(d, 4) ? ldexp(1, -(int)below(d, 50)) : 0x1p-52;
+    double length =
+        one_in(d, 4) ? ldexp(1, (int)below(d, 41) - 20) : ldexp(1, 12 + (int)below(d, 8));
+    vector moved = {p[0] + signed_unit(d) * off, p[1] + signed_unit(d) * off,
+                    p[2] + signed_unit(d) * off};
+    return expected_scale(moved, length * (1.5 + 0.5 * signed_unit(d)));
+}
+
+vector any_direction(draw *d) {
+    static const double AXIS[] = {-1, -0.5, -0.0, 0, 0.5, 1};
+    switch (below(d, 12)) {
+    case 0: return (vector){any_double(d), any_double(d), any_double(d)};
+    case 1: return at_an_end(d);
+    case 2: return (vector){AXIS[below(d, 6)], AXIS[below(d, 6)], AXIS[below(d, 6)]};
+    case 3: return about_a_corner(d);
+    case 4: return expected_scale(lattice_point(d), ldexp(1, (int)below(d, 41) - 20));
+    case 5: return expected_plus(lattice_point(d), lattice_point(d)); /* on an edge's plane */
+    case 6:
+        return expected_plus(lattice_point(d), expected_plus(lattice_point(d), lattice_point(d)));
+    default: return (vector){signed_unit(d), signed_unit(d), signed_unit(d)};
+    }
+}
+
+size_t any_length(draw *d, size_t needed) {
+    switch (below(d, 16)) {
+    case 0: return needed ? needed - 1 : 0;
+    case 1: return one_in(d, 4) ? 0 : (size_t)(any_bits(d) % (needed + 1));
+    case 2:
+    case 3: return needed + 1 + below(d, 4);
+    case 4: return needed + below(d, SURPLUS_MAX + 1);
+    default: return needed;
+    }
+}
+
+/* ---- meshes */
+
+static double positions_room[POSITIONS_ROOM];
+static uint32_t starts_room[STARTS_ROOM];
+static uint16_t entries_room[ENTRIES_ROOM];
+
+static mesh room(void) {
+    return (mesh){.positions = positions_room, .starts = starts_room, .entries = entries_room};
+}
+
+static void append_position(mesh *m, vector v) {
+    memcpy(m->positions + m->positions_length, &v, sizeof v);
+    m->positions_length += 3;
+}
+
+static void append_entry(mesh *m, size_t id) { m->entries[m->entries_length++] = (uint16_t)id; }
+
+/* Ends the list of the next vertex, or gives the first start. */
+static void append_start(mesh *m) { m->starts[m->starts_length++] = (uint32_t)m->entries_length; }
+
+static mesh lattice_mesh(uint32_t frequency) {
+    const lattice *l = lattice_of(frequency);
+    mesh m = room();
+    m.positions_length = l->positions_length;
+    m.starts_length = l->starts_length;
+    m.entries_length = l->entries_length;
+    memcpy(m.positions, l->positions, l->positions_length * sizeof *l->positions);
+    memcpy(m.starts, l->starts, l->starts_length * sizeof *l->starts);
+    memcpy(m.entries, l->entries, l->entries_length * sizeof *l->entries);
+    return m;
+}
+
+/* Row 5 passes. Components may be so small that a cell is past every whole number. */
+static vector any_position(draw *d) {
+    for (;;) {
+        vector v = {signed_unit(d), signed_unit(d), signed_unit(d)};
+        switch (below(d, 16)) {
+        case 0: v.x = ldexp(v.x, -(int)below(d, 1070)); break;
+        case 1: v.y = one_in(d, 2) ? 0.0 : -0.0; break;
+        case 2: v = lattice_point(d); break;
+        case 3: v = at_an_end(d); break;
+        case 4: v = expected_scale(v, ldexp(1, (int)below(d, 41) - 20)); break;
+        case 5: v.z = v.x; break;
+        default: break;
+        }
+        if (expected_direction(v) == 0)
+            return v;
+    }
+}
+
+/* Lists with repeats and own vertices; a neighbour need not list back; at times an island. */
+static mesh random_mesh(draw *d) {
+    mesh m = room();
+    uint32_t count = 1 + below(d, one_in(d, 4) ? 40 : 9);
+    uint32_t longest = one_in(d, 8) ? LIST_MAX : 7;
+    uint32_t cut = one_in(d, 4) ? below(d, count) : count;
+    append_start(&m);
+    for (uint32_t v = 0; v < count; v++) {
+        append_position(&m, any_position(d));
+        uint32_t low = v < cut ? 0 : cut, high = v < cut ? cut : count;
+        for (uint32_t i = below(d, longest + 1); i > 0; i--)
+            append_entry(&m, low + below(d, high - low));
+        append_start(&m);
+    }
+    return m;
+}
+
+/* A ring of vertices about one or two poles: mutual lists, with a triangle at each edge. */
+static mesh fan_mesh(draw *d) {
+    mesh m = room();
+    uint32_t ring = 3 + below(d, LIST_MAX - 2), poles = 1 + below(d, 2);
+    append_start(&m);
+    for (uint32_t v = 0; v < ring + poles; v++) {
+        double angle = 6.283185307179586 * v / ring;
+        bool pole = v >= ring;
+        append_position(&m, pole ? (vector){0, 0, v == ring ? 1 : -1}
+                                 : (vector){cos(angle), sin(angle), 0});
+        for (uint32_t i = 0; pole && i < ring; i++)
+            append_entry(&m, i);
+        if (!pole) {
+            append_entry(&m, (v + 1) % ring);
+            append_entry(&m, (v + ring - 1) % ring);
+            for (uint32_t i = 0; i < poles; i++)
+                append_entry(&m, ring + i);
+        }
+        append_start(&m);
+    }
+    return m;
+}
+
+/* 65,536 vertices, or some more or fewer: a path, which is cut at times. */
+static mesh greatest_mesh(draw *d) {
+    mesh m = room();
+    uint32_t count = VERTEX_MAX + 1 - below(d, 3);
+    uint32_t cut = one_in(d, 2) ? below(d, count) : count;
+    vector at = any_position(d);
+    append_start(&m);
+    for (uint32_t v = 0; v < count; v++) {
+        append_position(&m, (vector){at.y, at.z, at.x});
+        at = (vector){at.y, at.z, at.x};
+        if (v + 1 < count && v != cut)
+            append_entry(&m, v + 1);
+        append_start(&m);
+    }
+    return m;
+}
+
+/* Any slices at all, of the fuzzer's bytes as long as they last. */
+static mesh any_slices(draw *d) {
+    mesh m = room();
+    m.positions_length = below(d, 20);
+    m.starts_length = one_in(d, 2) ? m.positions_length / 3 + 1 : below(d, 12);
+    m.entries_length = below(d, 20);
+    for (size_t i = 0; i < m.positions_length; i++)
+        m.positions[i] = any_double(d);
+    for (size_t i = 0; i < m.starts_length; i++)
+        m.starts[i] = one_in(d, 8) ? (uint32_t)any_bits(d) : below(d, 20);
+    for (size_t i = 0; i < m.entries_length; i++)
+        m.entries[i] = (uint16_t)(one_in(d, 8) ? any_bits(d) : below(d, 7));
+    return m;
+}
+
+mesh any_mesh(draw *d) {
+    uint32_t kind = below(d, 256);
+    if (kind < 40)
+        return lattice_mesh(1);
+    if (kind < 70)
+        return lattice_mesh(2);
+    if (kind < 80)
+        return lattice_mesh(3);
+    if (kind == 80 && one_in(d, 16))
+        return one_in(d, 8) ? lattice_mesh(1 + below(d, FREQUENCY_MAX))
+                            : lattice_mesh(4 + below(d, 6));
+    if (kind == 81 && one_in(d, 16))
+        return greatest_mesh(d);
+    if (kind < 110)
+        return fan_mesh(d);
+    if (kind < 150)
+        return any_slices(d);
+    return random_mesh(d);
+}
+
+static void damage_starts(draw *d, mesh *m) {
+    uint32_t *start = &m->starts[below(d, (uint32_t)m->starts_length)];
+    switch (below(d, 6)) {
+    case 0: m->starts[0] = 1 + below(d, 3); break;
+    case 1: m->starts[m->starts_length - 1] += below(d, 3) - 1; break;
+    case 2: *start = (uint32_t)any_bits(d); break;
+    case 3: *start = 0; break;
+    default: *start += below(d, 5) - 2; break;
+    }
+}
+
+/* Makes the list of a vertex longer, up to and beyond the limit. */
+static void lengthen_list(draw *d, mesh *m) {
+    size_t count = m->starts_length - 1;
+    if (mesh_row(m, false) || m->entries_length + 40 > ENTRIES_ROOM)
+        return;
+    uint32_t v = below(d, (uint32_t)count), end = m->starts[v + 1];
+    uint32_t added = LIST_MAX - 1 + below(d, 3) - (end - m->starts[v]);
+    if (added > LIST_MAX + 1)
+        return;
+    memmove(m->entries + end + added, m->entries + end,
+            (m->entries_length - end) * sizeof *m->entries);
+    for (uint32_t i = 0; i < added; i++)
+        m->entries[end + i] = (uint16_t)below(d, (uint32_t)count);
+    for (size_t i = v + 1; i <= count; i++)
+        m->starts[i] += added;
+    m->entries_length += added;
+}
+
+static void damage_position(draw *d, mesh *m) {
+    size_t v = below(d, (uint32_t)(m->positions_length / 3));
+    if (one_in(d, 2)) {
+        m->positions[3 * v + below(d, 3)] = any_double(d);
+        return;
+    }
+    vector end = at_an_end(d);
+    memcpy(m->positions + 3 * v, &end, sizeof end);
+}
+
+void damage_mesh(draw *d, mesh *m) {
+    size_t count = m->positions_length / 3;
+    if (count == 0 || m->starts_length == 0)
+        return;
+    switch (below(d, 12)) {
+    case 0: m->positions_length -= one_in(d, 4) ? m->positions_length : 1 + below(d, 3); break;
+    case 1:
+        if (m->positions_length < POSITIONS_ROOM)
+            m->positions[m->positions_length++] = any_double(d);
+        break;
+    case 2: m->starts_length -= one_in(d, 4) ? m->starts_length : 1; break;
+    case 3:
+        if (m->starts_length < STARTS_ROOM) {
+            m->starts[m->starts_length] = (uint32_t)m->entries_length;
+            m->starts_length++;
+        }
+        break;
+    case 4:
+    case 5: damage_starts(d, m); break;
+    case 6:
+        if (m->entries_length > 0)
+            m->entries_length -= one_in(d, 4) ? m->entries_length : 1;
+        break;
+    case 7: lengthen_list(d, m); break;
+    case 8:
+    case 9:
+        if (m->entries_length > 0)
+            m->entries[below(d, (uint32_t)m->entries_length)] =
+                (uint16_t)(one_in(d, 2) ? count : any_bits(d));
+        break;
+    default: damage_position(d, m); break;
+    }
+}
+
+void any_permutation(draw *d, uint32_t *permutation, size_t count) {
+    uint32_t kind = below(d, 8), turn = below(d, (uint32_t)count);
+    for (size_t v = 0; v < count; v++)
+        permutation[v] = (uint32_t)(kind == 0 ? v : kind == 1 ? count - 1 - v : (v + turn) % count);
+    for (size_t v = count - 1; kind > 2 && v > 0; v--) {
+        size_t other = any_bits(d) % (v + 1);
+        uint32_t kept = permutation[v];
+        permutation[v] = permutation[other];
+        permutation[other] = kept;
+    }
+}

@@ -1,0 +1,686 @@
+/* What libFuzzer runs: every function of koshirga.h on drawn arguments. Each answer, and each
+ * element of each lent slice, is compared with the second reading of document 01 (reading.h). */
+#include <math.h>
+#include <stdlib.h>
+#include <string.h>
+
+#include "draw.h"
+#include "lent.h"
+#include "tally.h"
+
+typedef koshirga_vector3 vector;
+
+static bool same_vectors(vector a, vector b) {
+    return same(a.x, b.x) && same(a.y, b.y) && same(a.z, b.z);
+}
+
+/* Calls koshirga_NAME and compares with what is expected, by `equal`. */
+#define COMPARE(name, equal, expected, ...)                                                        \
+    do {                                                                                           \
+        hold(ENTRY_##name, equal(koshirga_##name(__VA_ARGS__), (expected)), "the result");         \
+        count(ENTRY_##name, 0);                                                                    \
+    } while (0)
+
+#define EQUAL(a, b) ((a) == (b))
+
+/* ---- binary64, vectors and weights */
+
+static void arithmetic(draw *d) {
+    double x = any_double(d), y = any_double(d), z = any_double(d);
+    uint64_t p = bits_of(any_double(d)), q = one_in(d, 8) ? p : any_bits(d);
+    if (one_in(d, 2)) /* a sum that cancels, to some ulps */
+        z = from_bits(bits_of(-(x * y)) + below(d, 5) - 2);
+    COMPARE(total_cmp, EQUAL, expected_total_cmp(p, q), p, q);
+    COMPARE(rank, EQUAL, expected_rank(x), x);
+    COMPARE(floor, same, floor(x), x);
+    COMPARE(ceil, same, ceil(x), x);
+    COMPARE(to_i64, EQUAL, expected_to_i64(x), x);
+    COMPARE(mul_add, same, fma(x, y, z), x, y, z);
+    COMPARE(sqrt, same, sqrt(x), x);
+    COMPARE(sqrt, same, sqrt(fabs(y)), fabs(y));
+}
+
+static void vectors(draw *d) {
+    vector a = any_vector(d), b = any_vector(d);
+    double k = any_double(d);
+    COMPARE(dot, same, expected_dot(a, b), a, b);
+    COMPARE(cross, same_vectors, expected_cross(a, b), a, b);
+    COMPARE(minus, same_vectors, expected_minus(a, b), a, b);
+    COMPARE(plus, same_vectors, expected_plus(a, b), a, b);
+    COMPARE(scale, same_vectors, expected_scale(a, k), a, k);
+    COMPARE(divide, same_vectors, expected_divide(a, k), a, k);
+    COMPARE(norm_squared, same, expected_dot(a, a), a);
+    COMPARE(norm, same, expected_norm(a), a);
+    COMPARE(normalize, same_vectors, expected_normalize(a), a);
+    for (int i = 0; i < 2; i++) {
+        vector v = any_direction(d);
+        uint32_t row = koshirga_direction(v);
+        hold_row(ENTRY_direction, expected_direction(v), row);
+        count(ENTRY_direction, row);
+    }
+}
+
+static bool same_weights(koshirga_weights a, koshirga_weights b) {
+    return same(a.u, b.u) && same(a.v, b.v) && same(a.w, b.w);
+}
+
+static void weights(draw *d) {
+    vector a = any_vector(d), b = any_vector(d), c = any_vector(d), p = any_vector(d);
+    if (one_in(d, 8))
+        b = a;
+    if (one_in(d, 8))
+        c = expected_plus(a, expected_scale(expected_minus(b, a), signed_unit(d)));
+    if (one_in(d, 2)) { /* in the triangle's plane, or close to it */
+        p = expected_plus(a, expected_scale(expected_minus(b, a), 1.5 * signed_unit(d)));
+        p = expected_plus(p, expected_scale(expected_minus(c, a), 1.5 * signed_unit(d)));
+    }
+    koshirga_weights found = expected_weights(p, a, b, c);
+    COMPARE(projected_barycentric, same_weights, found, p, a, b, c);
+    if (one_in(d, 2))
+        found = (koshirga_weights){any_double(d), any_double(d), any_double(d)};
+    COMPARE(least_weight, same, expected_least(found), found);
+}
+
+/* ---- analytic location */
+
+static void choose_face(draw *d) {
+    uint32_t all = below(d, 64);
+    bool s[3] = {all & 1, all & 2, all & 4}, o[3] = {all & 8, all & 16, all & 32};
+    koshirga_face_answer expected = expected_choose_face(s, o);
+    koshirga_face_answer answer = koshirga_choose_face(s[0], s[1], s[2], o[0], o[1], o[2]);
+    hold_row(ENTRY_choose_face, expected.refusal, answer.refusal);
+    hold(ENTRY_choose_face, expected.face == answer.face, "the face");
+    count(ENTRY_choose_face, answer.refusal);
+}
+
+/* As a rule small, as calls on large lattices take long. */
+static uint32_t any_frequency(draw *d, uint32_t large_one_in) {
+    switch (below(d, 24)) {
+    case 0: return one_in(d, 4) ? (uint32_t)any_bits(d) : one_in(d, 2) ? 0 : FREQUENCY_MAX + 1;
+    case 1: return one_in(d, large_one_in) ? 1 + below(d, FREQUENCY_MAX) : 4 + below(d, 4);
+    default: return 1 + below(d, 3);
+    }
+}
+
+static bool is_frequency(uint32_t n) { return n >= 1 && n <= FREQUENCY_MAX; }
+
+/* Bytes to fill slices with. */
+static uint8_t garbage[16 << 20];
+
+static const void *any_garbage(draw *d) {
+    return garbage + any_bits(d) % (1 << 20) * sizeof(uint64_t);
+}
+
+/* The id table of a lattice, with some ids put wrong at times. Gives its length, surplus
+ * included. */
+static size_t any_table(draw *d, uint32_t frequency, uint16_t *table) {
+    const lattice *l = lattice_of(frequency);
+    size_t length = any_length(d, l->ids_length);
+    memcpy(table, any_garbage(d), (l->ids_length + SURPLUS_MAX) * sizeof *table);
+    memcpy(table, l->ids, l->ids_length * sizeof *table);
+    size_t damaged = one_in(d, 3) ? l->ids_length / 8 : below(d, 2);
+    for (size_t i = 0; i < damaged; i++)
+        table[any_bits(d) % l->ids_length] = (uint16_t)(one_in(d, 2) ? l->vertices : any_bits(d));
+    return length;
+}
+
+static void analytic(draw *d) {
+    static uint16_t table[10 * (FREQUENCY_MAX + 1) * (FREQUENCY_MAX + 2) + SURPLUS_MAX];
+    uint32_t n = any_frequency(d, 8);
+    size_t length = is_frequency(n) ? any_table(d, n, table) : below(d, 61);
+    lent ids = lend(0, table, length, sizeof *table, one_in(d, 2));
+    for (int i = 0; i < 6; i++) {
+        vector v = any_direction(d);
+        koshirga_analytic_answer e = expected_analytic_locate(n, ids.expected, length, v);
+        koshirga_analytic_answer at = koshirga_analytic_locate(n, ids.at, length, v);
+        hold_row(ENTRY_analytic_locate, e.refusal, at.refusal);
+        hold(ENTRY_analytic_locate,
+             e.first == at.first && e.second == at.second && e.third == at.third, "the triple");
+        hold(ENTRY_analytic_locate, same(e.u, at.u) && same(e.v, at.v) && same(e.w, at.w),
+             "the weights");
+        hold(ENTRY_analytic_locate, as_expected(0, false), "the id table changed");
+        count(ENTRY_analytic_locate, at.refusal);
+
+        koshirga_vertex_answer f = expected_analytic_nearest(n, ids.expected, length, v);
+        koshirga_vertex_answer vertex = koshirga_analytic_nearest(n, ids.at, length, v);
+        hold_row(ENTRY_analytic_nearest, f.refusal, vertex.refusal);
+        hold(ENTRY_analytic_nearest, f.id == vertex.id, "the vertex");
+        hold(ENTRY_analytic_nearest, as_expected(0, false), "the id table changed");
+        count(ENTRY_analytic_nearest, vertex.refusal);
+    }
+}
+
+/* ---- lattice */
+
+static void call_lattice(draw *d) {
+    uint32_t n = any_frequency(d, 8);
+    size_t lengths[4] = {36, 13, 60, 60};
+    if (is_frequency(n)) {
+        const lattice *l = lattice_of(n);
+        lengths[0] = any_length(d, l->positions_length);
+        lengths[1] = any_length(d, l->starts_length);
+        lengths[2] = any_length(d, l->entries_length);
+        lengths[3] = any_length(d, l->ids_length);
+    }
+    lent positions =
+        lend(0, any_garbage(d), lengths[0], sizeof(double), MISREAD != 12 && one_in(d, 2));
+    lent starts = lend(1, any_garbage(d), lengths[1], sizeof(uint32_t), one_in(d, 2));
+    lent entries = lend(2, any_garbage(d), lengths[2], sizeof(uint16_t), one_in(d, 2));
+    lent ids = lend(3, any_garbage(d), lengths[3], sizeof(uint16_t), one_in(d, 2));
+    mesh filled = {positions.expected, lengths[0],       starts.expected,
+                   lengths[1],         entries.expected, lengths[2]};
+    uint32_t expected = expected_lattice(n, &filled, ids.expected, lengths[3]);
+    uint32_t row = koshirga_lattice(n, positions.at, lengths[0] + (MISREAD == 12), starts.at,
+                                    lengths[1], entries.at, lengths[2], ids.at, lengths[3]);
+    hold_row(ENTRY_lattice, expected, row);
+    hold(ENTRY_lattice, as_expected(0, false), "the positions");
+    hold(ENTRY_lattice, as_expected(1, false), "the starts");
+    hold(ENTRY_lattice, as_expected(2, false), "the entries");
+    hold(ENTRY_lattice, as_expected(3, false), "the id table");
+    count(ENTRY_lattice, row);
+    if (!row)
+        count_lattice(n);
+}
+
+/* ---- walk and renumbering */
+
+/* Lends a mesh as slices 0 to 2. `expected` gets their copies. */
+static mesh lend_mesh(draw *d, const mesh *m, mesh *expected) {
+    lent positions = lend(0, m->positions, m->positions_length, sizeof *m->positions, one_in(d, 2));
+    lent starts = lend(1, m->starts, m->starts_length, sizeof *m->starts, one_in(d, 2));
+    lent entries = lend(2, m->entries, m->entries_length, sizeof *m->entries, one_in(d, 2));
+    *expected = (mesh){positions.expected, positions.length, starts.expected,
+                       starts.length,      entries.expected, entries.length};
+    return (mesh){positions.at,  positions.length, starts.at,
+                  starts.length, entries.at,       entries.length};
+}
+
+static void hold_mesh(entry of, bool doubles) {
+    hold(of, as_expected(0, doubles), "the positions");
+    hold(of, as_expected(1, false), "the starts");
+    hold(of, as_expected(2, false), "the entries");
+}
+
+static void call_walk(draw *d, const mesh *drawn) {
+    mesh e, m = lend_mesh(d, drawn, &e);
+    size_t vertices = m.positions_length / 3;
+    size_t order_length = any_length(d, vertices), queue_length = any_length(d, vertices);
+    lent order = lend(3, any_garbage(d), order_length, sizeof(uint32_t), one_in(d, 2));
+    lent queue = lend(4, any_garbage(d), queue_length, sizeof(uint32_t), one_in(d, 2));
+    koshirga_walk_answer expected =
+        expected_walk(&e, order.expected, order_length, queue.expected, queue_length);
+    koshirga_walk_answer answer =
+        koshirga_walk(m.positions, m.positions_length, m.starts, m.starts_length, m.entries,
+                      m.entries_length, order.at, order_length, queue.at, queue_length);
+    hold_row(ENTRY_walk, expected.refusal, answer.refusal);
+    hold(ENTRY_walk, expected.entries_read == answer.entries_read, "the count of entries");
+    hold_mesh(ENTRY_walk, false);
+    hold(ENTRY_walk, as_expected(3, false), "the order");
+    hold(ENTRY_walk, as_expected(4, false), "the queue");
+    const uint32_t *ids = queue.at, *places = order.at;
+    for (uint32_t i = 0; !answer.refusal && i < vertices; i++)
+        hold(ENTRY_walk, ids[i] < vertices && places[ids[i]] == i, "queue and order are inverse");
+    count(ENTRY_walk, answer.refusal);
+}
+
+static size_t any_entries_per_vertex(draw *d, size_t vertices) {
+    switch (below(d, 16)) {
+    case 0: return 0;
+    case 1: return vertices + 1;
+    case 2: return (size_t)any_bits(d);
+    case 3: return below(d, 4);
+    case 4:
+    case 5:
+    case 6:
+    case 7:
+    case 8: return vertices;
+    default: return 1;
+    }
+}
+
+/* Some slabs, and a tail. Of a large slab a part only. */
+static size_t any_values_length(draw *d, size_t vertices, size_t per_vertex) {
+    if (vertices > 5000)
+        return below(d, 2 * (uint32_t)vertices);
+    size_t slab = per_vertex == vertices ? vertices * vertices : vertices;
+    if (slab > 2500)
+        slab = vertices;
+    return slab * below(d, 4) + (one_in(d, 2) ? below(d, (uint32_t)slab + 1) : 0);
+}
+
+static void damage_permutation(draw *d, uint32_t *permutation, size_t *length) {
+    uint32_t *at = &permutation[below(d, (uint32_t)*length)];
+    switch (below(d, 24)) {
+    case 0: *at = permutation[below(d, (uint32_t)*length)]; break;
+    case 1: *at = (uint32_t)*length; break;
+    case 2: *at = (uint32_t)any_bits(d); break;
+    case 3: *at = *at + 65536; break;
+    case 4: *length -= 1; break;
+    case 5:
+        permutation[*length] = (uint32_t)*length;
+        *length += 1;
+        break;
+    case 6: *length = 0; break;
+    default: break;
+    }
+}
+
+/* Renumbers `drawn` too where the call is accepted, so that later calls see the mesh after it. */
+static void call_renumber(draw *d, mesh *drawn) {
+    static uint32_t permutation_room[STARTS_ROOM], order_room[STARTS_ROOM], queue_room[STARTS_ROOM];
+    mesh e, m = lend_mesh(d, drawn, &e);
+    size_t vertices = m.positions_length / 3, permutation_length = vertices;
+    if (vertices > 0 && vertices <= VERTEX_MAX + 1) {
+        bool walked = one_in(d, 4) &&
+                      !expected_walk(&e, order_room, STARTS_ROOM, queue_room, STARTS_ROOM).refusal;
+        if (walked)
+            memcpy(permutation_room, order_room, vertices * sizeof *order_room);
+        else
+            any_permutation(d, permutation_room, vertices);
+        damage_permutation(d, permutation_room, &permutation_length);
+    }
+    size_t per_vertex = any_entries_per_vertex(d, vertices);
+    size_t values_length = any_values_length(d, vertices, per_vertex);
+    size_t least = renumber_scratch(&m, values_length);
+    static const size_t SIZES[5] = {sizeof(uint32_t), sizeof(uint32_t), sizeof(uint16_t), 1,
+                                    sizeof(double)};
+    lent values = lend(3, any_garbage(d), values_length, sizeof(double), one_in(d, 2));
+    lent permutation =
+        lend(4, permutation_room, permutation_length, sizeof(uint32_t), one_in(d, 2));
+    lent scratch[5];
+    size_t scratch_lengths[5];
+    bool all_enough = one_in(d, 2);
+    for (int i = 0; i < 5; i++) {
+        scratch_lengths[i] = all_enough ? least + below(d, 3) : any_length(d, least);
+        scratch[i] = lend(5 + i, any_garbage(d), scratch_lengths[i], SIZES[i], one_in(d, 2));
+    }
+    uint32_t expected = expected_renumber(&e, values.expected, values_length, permutation.expected,
+                                          permutation_length, per_vertex, scratch_lengths);
+    uint32_t row = koshirga_renumber(
+        m.positions, m.positions_length, m.starts, m.starts_length, m.entries, m.entries_length,
+        values.at, values_length, permutation.at, permutation_length, per_vertex, scratch[0].at,
+        scratch_lengths[0], scratch[1].at, scratch_lengths[1], scratch[2].at, scratch_lengths[2],
+        scratch[3].at, scratch_lengths[3], scratch[4].at, scratch_lengths[4]);
+    hold_row(ENTRY_renumber, expected, row);
+    hold_mesh(ENTRY_renumber, !row);
+    hold(ENTRY_renumber, as_expected(3, !row), "the values");
+    hold(ENTRY_renumber, as_expected(4, false), "the permutation");
+    for (int i = 0; i < 5; i++)
+        hold(ENTRY_renumber, as_expected_from(5 + i, row ? 0 : least), "scratch");
+    count(ENTRY_renumber, row);
+    if (row)
+        return;
+    hold(ENTRY_renumber, mesh_row(&m, false) == 0, "the mesh passes its rows again");
+    memcpy(drawn->positions, m.positions, m.positions_length * sizeof *m.positions);
+    memcpy(drawn->starts, m.starts, m.starts_length * sizeof *m.starts);
+    memcpy(drawn->entries, m.entries, m.entries_length * sizeof *m.entries);
+}
+
+/* ---- grid */
+
+/* Room for a grid that is damaged and then queried. */
+enum { CELLS_ROOM = 6 * 130 * 130, IDS_ROOM = 27 * VERTEX_MAX + 2, TRIPLES_ROOM = 3 << 20 };
+
+static double query_positions[POSITIONS_ROOM];
+static uint32_t query_cell_starts[CELLS_ROOM], query_triangle_starts[STARTS_ROOM];
+static uint16_t query_cell_ids[IDS_ROOM], query_triples[TRIPLES_ROOM];
+
+static grid query_room(void) {
+    return (grid){.cell_starts = query_cell_starts,
+                  .cell_ids = query_cell_ids,
+                  .triangle_starts = query_triangle_starts,
+                  .triples = query_triples};
+}
+
+/* Lends a grid as slices 3 to 6. `expected` gets their copies. */
+static grid lend_grid(draw *d, const grid *g, grid *expected) {
+    lent cell_starts =
+        lend(3, g->cell_starts, g->cell_starts_length, sizeof(uint32_t), one_in(d, 2));
+    lent cell_ids = lend(4, g->cell_ids, g->cell_ids_length, sizeof(uint16_t), one_in(d, 2));
+    lent triangle_starts =
+        lend(5, g->triangle_starts, g->triangle_starts_length, sizeof(uint32_t), one_in(d, 2));
+    lent triples = lend(6, g->triples, g->triples_length, sizeof(uint16_t), one_in(d, 2));
+    *expected =
+        (grid){cell_starts.expected,     cell_starts.length,     cell_ids.expected, cell_ids.length,
+               triangle_starts.expected, triangle_starts.length, triples.expected,  triples.length};
+    return (grid){cell_starts.at,     cell_starts.length,     cell_ids.at, cell_ids.length,
+                  triangle_starts.at, triangle_starts.length, triples.at,  triples.length};
+}
+
+static void hold_grid(entry of) {
+    hold(of, as_expected(3, false), "the cell starts");
+    hold(of, as_expected(4, false), "the cell ids");
+    hold(of, as_expected(5, false), "the triangle starts");
+    hold(of, as_expected(6, false), "the triples");
+}
+
+/* Cells and triangles that a built grid has: parts that are filled, ids below the count. */
+static void hold_built(const grid *g, const grid *lengths) {
+    size_t vertices = lengths->triangle_starts_length - 1;
+    size_t cells = lengths->cell_starts_length - 1;
+    hold(ENTRY_build_grid, g->cell_starts[cells] == lengths->cell_ids_length,
+         "the last cell's end");
+    hold(ENTRY_build_grid, 3 * (size_t)g->triangle_starts[vertices] == lengths->triples_length,
+         "the last triangle's end");
+    bool below_count = true, ascending = true;
+    for (size_t i = 0; i < lengths->cell_ids_length; i++)
+        below_count &= g->cell_ids[i] < vertices;
+    for (size_t i = 0; i < lengths->triples_length; i += 3) {
+        below_count &= g->triples[i + 2] < vertices;
+        ascending &= g->triples[i] < g->triples[i + 1] && g->triples[i + 1] < g->triples[i + 2];
+    }
+    hold(ENTRY_build_grid, below_count, "ids below the count");
+    hold(ENTRY_build_grid, ascending, "ascending triples");
+}
+
+/* Copies a slice into its room, with a 0 behind it, as it may be lengthened. */
+static void *keep(void *room, const void *from, size_t length, size_t size) {
+    memcpy(room, from, length * size);
+    memset((uint8_t *)room + length * size, 0, size);
+    return room;
+}
+
+/* Whether a grid was built; it is then in `built`, cut to its lengths, beside its positions. */
+static bool call_build_grid(draw *d, const mesh *drawn, grid *built, uint32_t *side) {
+    mesh e, m = lend_mesh(d, drawn, &e);
+    bool passes = mesh_row(&e, true) == 0;
+    grid needed = {.cell_starts_length = 25,
+                   .cell_ids_length = 30,
+                   .triangle_starts_length = e.positions_length / 3 + 1,
+                   .triples_length = 30};
+    if (passes)
+        needed = grid_lengths(&e);
+    if (needed.triples_length + 2 > TRIPLES_ROOM)
+        abort(); /* no drawn mesh has so many */
+    grid given = needed, g_expected;
+    const void *filling = any_garbage(d);
+    given.cell_starts = given.triangle_starts = (uint32_t *)(uintptr_t)filling;
+    given.cell_ids = given.triples = (uint16_t *)(uintptr_t)filling;
+    if (!one_in(d, 3)) {
+        given.cell_starts_length = any_length(d, needed.cell_starts_length);
+        given.cell_ids_length = any_length(d, needed.cell_ids_length);
+        given.triangle_starts_length = any_length(d, needed.triangle_starts_length);
+        given.triples_length = any_length(d, needed.triples_length);
+    }
+    grid g = lend_grid(d, &given, &g_expected);
+    koshirga_build_answer expected = expected_build_grid(&e, &g_expected);
+    koshirga_build_answer answer = koshirga_build_grid(
+        m.positions, m.positions_length, m.starts, m.starts_length, m.entries, m.entries_length,
+        g.cell_starts, g.cell_starts_length, g.cell_ids, g.cell_ids_length, g.triangle_starts,
+        g.triangle_starts_length, g.triples, g.triples_length);
+    hold_row(ENTRY_build_grid, expected.refusal, answer.refusal);
+    hold(ENTRY_build_grid, expected.side == answer.side, "the side");
+    hold_mesh(ENTRY_build_grid, false);
+    hold_grid(ENTRY_build_grid);
+    count(ENTRY_build_grid, answer.refusal);
+    if (answer.refusal)
+        return false;
+    hold_built(&g, &needed);
+    *built = needed;
+    *side = answer.side;
+    keep(query_positions, m.positions, m.positions_length, sizeof *m.positions);
+    built->cell_starts =
+        keep(query_cell_starts, g.cell_starts, needed.cell_starts_length, sizeof(uint32_t));
+    built->cell_ids = keep(query_cell_ids, g.cell_ids, needed.cell_ids_length, sizeof(uint16_t));
+    built->triangle_starts = keep(query_triangle_starts, g.triangle_starts,
+                                  needed.triangle_starts_length, sizeof(uint32_t));
+    built->triples = keep(query_triples, g.triples, needed.triples_length, sizeof(uint16_t));
+    return true;
+}
+
+/* ---- grid queries */
+
+/* What a query takes, but for the direction. */
+typedef struct query {
+    double *positions;
+    size_t positions_length;
+    uint32_t side;
+    grid grid;
+} query;
+
+/* Lends positions as slice 0 and the grid as slices 3 to 6. */
+static query lend_query(draw *d, const query *q, query *expected) {
+    lent positions = lend(0, q->positions, q->positions_length, sizeof(double), one_in(d, 2));
+    query lent_query = {positions.at, positions.length, q->side, {0}};
+    *expected = (query){positions.expected, positions.length, q->side, {0}};
+    lent_query.grid = lend_grid(d, &q->grid, &expected->grid);
+    return lent_query;
+}
+
+static void hold_query(entry of) {
+    hold(of, as_expected(0, false), "the positions");
+    hold_grid(of);
+}
+
+static void call_nearest(const query *q, const query *e, vector v) {
+    const grid *g = &q->grid;
+    koshirga_nearest_answer expected =
+        expected_grid_nearest(e->positions, e->positions_length, e->side, &e->grid, v);
+    koshirga_nearest_answer answer = koshirga_grid_nearest(
+        q->positions, q->positions_length, q->side, g->cell_starts, g->cell_starts_length,
+        g->cell_ids, g->cell_ids_length, g->triangle_starts, g->triangle_starts_length, v);
+    hold_row(ENTRY_grid_nearest, expected.refusal, answer.refusal);
+    hold(ENTRY_grid_nearest, expected.id == answer.id, "the vertex");
+    hold(ENTRY_grid_nearest, expected.candidates == answer.candidates, "the count of candidates");
+    hold(ENTRY_grid_nearest, same(expected.distance, answer.distance), "the distance");
+    hold(ENTRY_grid_nearest, answer.refusal || answer.id < q->positions_length / 3,
+         "an id below the count");
+    hold_query(ENTRY_grid_nearest);
+    count(ENTRY_grid_nearest, answer.refusal);
+}
+
+static void call_locate(const query *q, const query *e, vector v) {
+    const grid *g = &q->grid;
+    koshirga_located_answer expected =
+        expected_grid_locate(e->positions, e->positions_length, e->side, &e->grid, v);
+    koshirga_located_answer at = koshirga_grid_locate(
+        q->positions, q->positions_length, q->side, g->cell_starts, g->cell_starts_length,
+        g->cell_ids, g->cell_ids_length, g->triangle_starts, g->triangle_starts_length, g->triples,
+        g->triples_length, v);
+    size_t vertices = q->positions_length / 3;
+    hold_row(ENTRY_grid_locate, expected.refusal, at.refusal);
+    hold(ENTRY_grid_locate,
+         expected.first == at.first && expected.second == at.second && expected.third == at.third,
+         "the triple");
+    hold(ENTRY_grid_locate,
+         same(expected.u, at.u) && same(expected.v, at.v) && same(expected.w, at.w), "the weights");
+    hold(ENTRY_grid_locate, same(expected.least, at.least), "the least weight");
+    hold(ENTRY_grid_locate,
+         at.refusal || (at.first < vertices && at.second < vertices && at.third < vertices),
+         "ids below the count");
+    hold(ENTRY_grid_locate,
+         at.refusal || (!(at.u < at.least) && !(at.v < at.least) && !(at.w < at.least)),
+         "no weight below the least");
+    hold_query(ENTRY_grid_locate);
+    count(ENTRY_grid_locate, at.refusal);
+}
+
+static void call_queries(draw *d, const query *drawn, int directions) {
+    query e, q = lend_query(d, drawn, &e);
+    for (int i = 0; i < directions; i++) {
+        vector v = any_direction(d);
+        call_nearest(&q, &e, v);
+        call_locate(&q, &e, v);
+    }
+}
+
+/* A start that is wrong as a rule; three times some of them is small in 32 bits. */
+static uint32_t wrong_start(draw *d) {
+    static const uint32_t THIRDS[] = {0x55555555, 0x55555556, 0xaaaaaaab, 0xaaaaaaac};
+    switch (below(d, 4)) {
+    case 0: return THIRDS[below(d, 4)];
+    case 1: return UINT32_MAX - below(d, 3);
+    case 2: return (uint32_t)any_bits(d);
+    default: return below(d, 64);
+    }
+}
+
+static void change_length(draw *d, size_t *length) {
+    switch (below(d, 4)) {
+    case 0: *length = 0; break;
+    case 1: *length += 1; break;
+    default: *length -= *length > 0; break;
+    }
+}
+
+/* Puts one thing wrong in the cell that starts at `starts`. */
+static void damage_cell(draw *d, grid *g, uint32_t *starts, size_t vertices) {
+    size_t length = starts[1] - starts[0];
+    switch (below(d, 6)) {
+    case 0: starts[1] = starts[0]; break;
+    case 1: starts[0] = starts[1] + below(d, 3); break;
+    case 2: starts[1] = (uint32_t)g->cell_ids_length + below(d, 2); break;
+    case 3: starts[below(d, 2)] = wrong_start(d); break;
+    case 4: g->cell_ids_length = starts[1] - (length > 0); break;
+    default:
+        if (length > 0)
+            g->cell_ids[starts[0] + below(d, (uint32_t)length)] =
+                (uint16_t)(one_in(d, 2) ? vertices : any_bits(d));
+    }
+}
+
+/* The same for the triangles at a vertex. */
+static void damage_triangles(draw *d, query *q, uint32_t *starts, size_t vertices) {
+    grid *g = &q->grid;
+    size_t length = starts[1] - starts[0];
+    switch (below(d, 8)) {
+    case 0: starts[1] = starts[0]; break;
+    case 1: starts[0] = starts[1] + below(d, 3); break;
+    case 2: starts[1] = (uint32_t)(g->triples_length / 3) + below(d, 2); break;
+    case 3: starts[below(d, 2)] = wrong_start(d); break;
+    case 4: g->triples_length = 3 * (size_t)starts[1] - (length > 0); break;
+    case 5:
+        for (size_t i = 0; i < length; i++) /* no weight of these triangles is a number */
+            q->positions[3 * g->triples[3 * (starts[0] + i) + below(d, 3)]] = any_double(d);
+        break;
+    case 6:
+        if (length > 0) /* other triangles, degenerate ones too */
+            for (int i = 0; i < 3; i++)
+                g->triples[3 * (starts[0] + below(d, (uint32_t)length)) + (uint32_t)i] =
+                    (uint16_t)below(d, (uint32_t)vertices);
+        break;
+    default:
+        if (length > 0)
+            g->triples[3 * starts[0] + below(d, 3 * (uint32_t)length)] =
+                (uint16_t)(one_in(d, 2) ? vertices : any_bits(d));
+    }
+}
+
+/* Damages a grid where a query for this direction meets it. */
+static void damage_query(draw *d, query *q, vector v) {
+    grid *g = &q->grid;
+    size_t vertices = q->positions_length / 3;
+    uint32_t kind = below(d, 16);
+    switch (kind) {
+    case 0: q->side = one_in(d, 2) ? q->side + below(d, 3) - 1 : (uint32_t)any_bits(d); return;
+    case 1: change_length(d, &q->positions_length); return;
+    case 2: change_length(d, &g->cell_starts_length); return;
+    case 3: change_length(d, &g->triangle_starts_length); return;
+    case 4: change_length(d, &g->cell_ids_length); return;
+    case 5: change_length(d, &g->triples_length); return;
+    case 6: q->positions[any_bits(d) % q->positions_length] = any_double(d); return;
+    default: break;
+    }
+    koshirga_nearest_answer nearest =
+        expected_grid_nearest(q->positions, q->positions_length, q->side, g, v);
+    uint32_t row = expected_grid_locate(q->positions, q->positions_length, q->side, g, v).refusal;
+    if (kind < 11 && (nearest.refusal == 0 || nearest.refusal == 11))
+        damage_cell(d, g, g->cell_starts + cell_of(q->side, v), vertices);
+    else if (row == 0 || row == 12)
+        damage_triangles(d, q, g->triangle_starts + nearest.id, vertices);
+}
+
+/* Small slices of any content, in the lengths of a grid as a rule. */
+static void any_grid(draw *d) {
+    uint32_t vertices = 1 + below(d, 6);
+    query q = {query_positions, 3 * vertices, 2, query_room()};
+    grid *g = &q.grid;
+    g->cell_starts_length = 25;
+    g->cell_ids_length = below(d, 12);
+    g->triangle_starts_length = vertices + 1;
+    g->triples_length = below(d, 24);
+    for (size_t i = 0; i < q.positions_length; i++)
+        q.positions[i] = one_in(d, 12) ? any_double(d) : signed_unit(d);
+    uint32_t start = 0;
+    for (size_t i = 0; i <= g->cell_starts_length; i++)
+        g->cell_starts[i] = one_in(d, 16) ? wrong_start(d) : (start += below(d, 8) == 0);
+    start = 0;
+    for (size_t i = 0; i <= g->triangle_starts_length; i++)
+        g->triangle_starts[i] = one_in(d, 16) ? wrong_start(d) : (start += below(d, 3));
+    for (size_t i = 0; i < g->cell_ids_length; i++)
+        g->cell_ids[i] = (uint16_t)below(d, vertices + one_in(d, 32));
+    for (size_t i = 0; i < g->triples_length; i++)
+        g->triples[i] = (uint16_t)below(d, vertices + one_in(d, 32));
+    if (one_in(d, 8))
+        change_length(d, one_in(d, 2) ? &g->cell_starts_length : &g->triangle_starts_length);
+    call_queries(d, &q, 4);
+}
+
+/* ---- scenarios */
+
+static void meshes(draw *d) {
+    mesh m = any_mesh(d);
+    if (one_in(d, 2))
+        damage_mesh(d, &m);
+    if (one_in(d, 16))
+        damage_mesh(d, &m);
+    call_walk(d, &m);
+    call_renumber(d, &m);
+    if (one_in(d, 2))
+        call_renumber(d, &m);
+    grid built;
+    uint32_t side;
+    if (!call_build_grid(d, &m, &built, &side))
+        return;
+    query q = {query_positions, m.positions_length, side, built};
+    call_queries(d, &q, 3);
+    for (int i = 0; i < 2; i++) {
+        vector v = any_direction(d);
+        damage_query(d, &q, v);
+        query e, lent_query = lend_query(d, &q, &e);
+        call_nearest(&lent_query, &e, v);
+        call_locate(&lent_query, &e, v);
+        if (e.positions_length == 0 || e.side != side || e.grid.cell_starts_length == 0 ||
+            e.grid.triangle_starts_length == 0)
+            return; /* nothing is left to be damaged */
+    }
+}
+
+static void repeat(void (*scenario)(draw *d), int times, draw *d) {
+    for (int i = 0; i < times; i++)
+        scenario(d);
+}
+
+int LLVMFuzzerInitialize(int *argc, char ***argv);
+int LLVMFuzzerTestOneInput(const uint8_t *bytes, size_t length);
+
+int LLVMFuzzerInitialize(int *argc, char ***argv) {
+    (void)argc;
+    (void)argv;
+    draw d = draw_from(NULL, 0);
+    for (size_t i = 0; i < sizeof garbage; i += sizeof(uint64_t)) {
+        uint64_t bits = any_bits(&d);
+        memcpy(garbage + i, &bits, sizeof bits);
+    }
+    tally_begin();
+    return 0;
+}
+
+int LLVMFuzzerTestOneInput(const uint8_t *bytes, size_t length) {
+    draw d = draw_from(bytes, length);
+    switch (below(&d, 16)) {
+    case 0: repeat(arithmetic, 4, &d); break;
+    case 1: repeat(vectors, 4, &d); break;
+    case 2: repeat(weights, 8, &d); break;
+    case 3: repeat(choose_face, 8, &d); break;
+    case 4:
+    case 5:
+    case 6: analytic(&d); break;
+    case 7: repeat(call_lattice, 3, &d); break;
+    case 8:
+    case 9: any_grid(&d); break;
+    default: meshes(&d); break;
+    }
+    tally_input();
+    return 0;
+}

@@ -1,0 +1,32 @@
+/* Slices lent to the engine. The archive is compiled without sanitizers, so AddressSanitizer
+ * doesn't see what it reads and writes. Each slice therefore stands at a page that can't be
+ * touched: its last element before one, or its first element behind one. An access past that end
+ * stops the program; bytes at the other end are compared after the call. Beside each slice stands a
+ * copy, with what the call is to leave. */
+#ifndef LENT_H
+#define LENT_H
+
+#include <stdbool.h>
+#include <stddef.h>
+
+enum { LENT_MAX = 10 };
+
+typedef struct lent {
+    void *at;       /* what the engine gets; never null */
+    void *expected; /* as long, in a place of its own */
+    size_t length;  /* in elements */
+} lent;
+
+/* Makes slice `which` (below LENT_MAX), with `from` as its content; of length 0 it is a pointer
+ * that can't be read. `behind`: the first element behind the page, and not the last one before it.
+ */
+lent lend(int which, const void *from, size_t length, size_t size, bool behind);
+
+/* Whether slice `which` is what its copy says, and the bytes about it are untouched. Doubles may
+ * differ in the bits of a NaN. */
+bool as_expected(int which, bool doubles);
+
+/* The same for scratch after an accepted call: its first `used` elements are free. */
+bool as_expected_from(int which, size_t used);
+
+#endif

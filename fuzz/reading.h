@@ -1,0 +1,124 @@
+/* Document 01 read a second time, in C. expected_NAME says what koshirga_NAME returns, and writes
+ * what it leaves into the slices that it is given. It follows the document's text and nothing of
+ * the proved code. */
+#ifndef READING_H
+#define READING_H
+
+#include "koshirga.h"
+
+/* 0, but in `fuzz/run misread`, which builds with each other number in turn. Each puts one mistake
+ * into the reading, and a run must then end with a difference: 1  rows 5 and 9 refuse the upper
+ * end, 2^40 2  va, vb and vc round both products 3  flags 1 and 2 both set are refused 4  the first
+ * corner of greatest weight, not the last 5  row 4 before row 3 6  the renumbering tests row 5 7
+ * row 8 before row 6 8  floor in place of truncation when placing 9  a query tests row 9 before the
+ * lengths of row 3 10  of equal leasts the later triangle is kept 11  refusal 13 leaves 0 at the
+ * ids that weren't reached 12  no mistake in the reading: the engine is told of a place more than
+ * it is lent, and faults */
+#ifndef MISREAD
+#define MISREAD 0
+#endif
+enum { MISREADINGS = 12 };
+
+enum { FREQUENCY_MAX = 80, VERTEX_MAX = 65536, LIST_MAX = 32, ROWS = 13 };
+
+/* A place that the walk didn't number. */
+#define UNREACHED UINT32_C(4294967295)
+
+/* What is read as a mesh. The renumbering writes to it. */
+typedef struct mesh {
+    double *positions;
+    size_t positions_length;
+    uint32_t *starts;
+    size_t starts_length;
+    uint16_t *entries;
+    size_t entries_length;
+} mesh;
+
+/* What is read, or filled, as a grid, beside the positions. */
+typedef struct grid {
+    uint32_t *cell_starts;
+    size_t cell_starts_length;
+    uint16_t *cell_ids;
+    size_t cell_ids_length;
+    uint32_t *triangle_starts;
+    size_t triangle_starts_length;
+    uint16_t *triples;
+    size_t triples_length;
+} grid;
+
+/* A lattice, worked out once for each frequency. */
+typedef struct lattice {
+    size_t vertices, positions_length, starts_length, entries_length, ids_length;
+    double *positions;
+    uint32_t *starts;
+    uint16_t *entries;
+    uint16_t *ids;
+} lattice;
+
+/* Equal bits, or a NaN each, whose bits are free. */
+bool same(double x, double y);
+
+uint64_t bits_of(double x);
+double from_bits(uint64_t bits);
+
+int32_t expected_total_cmp(uint64_t x, uint64_t y);
+uint64_t expected_rank(double x);
+int64_t expected_to_i64(double x);
+
+double expected_dot(koshirga_vector3 a, koshirga_vector3 b);
+koshirga_vector3 expected_cross(koshirga_vector3 a, koshirga_vector3 b);
+koshirga_vector3 expected_minus(koshirga_vector3 a, koshirga_vector3 b);
+koshirga_vector3 expected_plus(koshirga_vector3 a, koshirga_vector3 b);
+koshirga_vector3 expected_scale(koshirga_vector3 v, double factor);
+koshirga_vector3 expected_divide(koshirga_vector3 v, double divisor);
+double expected_norm(koshirga_vector3 v);
+koshirga_vector3 expected_normalize(koshirga_vector3 v);
+uint32_t expected_direction(koshirga_vector3 v);
+
+koshirga_weights expected_weights(koshirga_vector3 p, koshirga_vector3 a, koshirga_vector3 b,
+                                  koshirga_vector3 c);
+double expected_least(koshirga_weights weights);
+
+koshirga_face_answer expected_choose_face(const bool signs[3], const bool outside[3]);
+koshirga_analytic_answer expected_analytic_locate(uint32_t frequency, const uint16_t *ids,
+                                                  size_t ids_length, koshirga_vector3 direction);
+koshirga_vertex_answer expected_analytic_nearest(uint32_t frequency, const uint16_t *ids,
+                                                 size_t ids_length, koshirga_vector3 direction);
+
+/* The lattice of a frequency from 1 to 80; it stays until the program ends. */
+const lattice *lattice_of(uint32_t frequency);
+
+/* filled: positions, starts and entries; ids beside them. */
+uint32_t expected_lattice(uint32_t frequency, mesh *filled, uint16_t *ids, size_t ids_length);
+
+/* The first of rows 2 to 4 that holds, then row 5 where it is asked for; 0 where none does. */
+uint32_t mesh_row(const mesh *m, bool with_row_5);
+
+koshirga_walk_answer expected_walk(const mesh *m, uint32_t *order, size_t order_length,
+                                   uint32_t *queue, size_t queue_length);
+
+/* The places that each scratch slice of a renumbering needs; the mesh passes its rows. */
+size_t renumber_scratch(const mesh *m, size_t values_length);
+
+uint32_t expected_renumber(mesh *m, double *values, size_t values_length,
+                           const uint32_t *permutation, size_t permutation_length,
+                           size_t entries_per_vertex, const size_t scratch_lengths[5]);
+
+uint32_t grid_side(size_t count);
+
+/* The lengths of the grid of a mesh that passes rows 2 to 5; its slices are not looked at. */
+grid grid_lengths(const mesh *m);
+
+koshirga_build_answer expected_build_grid(const mesh *m, grid *filled);
+
+/* The cell of a direction that passes row 9. */
+size_t cell_of(uint32_t side, koshirga_vector3 direction);
+
+koshirga_nearest_answer expected_grid_nearest(const double *positions, size_t positions_length,
+                                              uint32_t side, const grid *g,
+                                              koshirga_vector3 direction);
+koshirga_located_answer expected_grid_locate(const double *positions, size_t positions_length,
+                                             uint32_t side, const grid *g,
+                                             koshirga_vector3 direction);
+
+#endif

@@ -1,0 +1,42 @@
+//! The arguments of both examples: `[X Y Z [FREQUENCY]]`.
+
+use koshirga::Vector3;
+use std::process::exit;
+
+const DIRECTION: Vector3 = Vector3::new(0.3, -0.5, 0.8);
+
+pub struct Arguments {
+    pub direction: Vector3,
+    pub frequency: u32,
+}
+
+/// The arguments, or those of the example where there are none. Numbers that the engine refuses
+/// are left to it.
+pub fn read(example: &str, frequency: u32) -> Arguments {
+    let given: Vec<String> = std::env::args().skip(1).collect();
+    parse(&given, frequency).unwrap_or_else(|message| {
+        eprintln!("{example}: {message}\nusage: {example} [X Y Z [FREQUENCY]]");
+        exit(2)
+    })
+}
+
+fn parse(given: &[String], frequency: u32) -> Result<Arguments, String> {
+    let (direction, frequency) = match given {
+        [] => (DIRECTION, frequency),
+        [x, y, z] => (vector(x, y, z)?, frequency),
+        [x, y, z, n] => (vector(x, y, z)?, number(n)?),
+        _ => return Err(format!("{} arguments", given.len())),
+    };
+    Ok(Arguments {
+        direction,
+        frequency,
+    })
+}
+
+fn vector(x: &str, y: &str, z: &str) -> Result<Vector3, String> {
+    Ok(Vector3::new(number(x)?, number(y)?, number(z)?))
+}
+
+fn number<T: std::str::FromStr>(text: &str) -> Result<T, String> {
+    text.parse().map_err(|_| format!("{text:?} is no number"))
+}
