@@ -19,31 +19,33 @@ enum { FREQUENCY = 20 };
 
 /* ---- what every program needs */
 
-/* The rows of document 01's table, by number. */
+/* What to tell the user, by the number that a call answers. */
 static const char *const REFUSALS[] = {
-    [1] = "the frequency is below 1 or above 80",
-    [2] = "no vertex, over 65536 of them, positions not three a vertex, or a side that isn't the "
-          "count's",
-    [3] = "the starts have a wrong length, fall, run past their list, or make a list of over 32",
-    [4] = "an id is not below the vertex count",
-    [5] = "a position isn't finite, or its squared length is outside 2^-40..2^40",
-    [6] = "not a permutation of the ids",
-    [7] = "the entries a vertex are neither 1 nor the vertex count",
-    [8] = "a slice is too short",
-    [9] = "the direction isn't finite, or its squared length is outside 2^-40..2^40",
-    [10] = "the outside flags sum to over 3: a long direction close to an icosahedron vertex",
-    [11] = "no vertex is in the direction's cell",
-    [12] = "no triangle at the nearest vertex has a least weight",
-    [13] = "the mesh is not connected",
+    [KOSHIRGA_FREQUENCY] = "the frequency is below 1 or above 80",
+    [KOSHIRGA_COUNT] = "no vertex, over 65536 of them, positions not three a vertex, or a side "
+                       "that isn't the count's",
+    [KOSHIRGA_STARTS] = "the starts have a wrong length, don't begin at 0, fall, run past their "
+                        "list or end before it, or a list is over 32",
+    [KOSHIRGA_ID] = "an id is not below the vertex count",
+    [KOSHIRGA_POSITION] = "a position isn't finite, or its length is below 2^-20 or above 2^20",
+    [KOSHIRGA_PERMUTATION] = "not a permutation of the ids",
+    [KOSHIRGA_ENTRIES_PER_VERTEX] = "the entries a vertex are neither 1 nor the vertex count",
+    [KOSHIRGA_ROOM] = "a slice is too short",
+    [KOSHIRGA_DIRECTION] = "the direction isn't finite, or its length is below 2^-20 or above 2^20",
+    [KOSHIRGA_FLAGS] = "the outside flags sum to over 3: a long direction close to an icosahedron "
+                       "vertex",
+    [KOSHIRGA_EMPTY_CELL] = "no vertex is in the direction's cell",
+    [KOSHIRGA_NO_TRIANGLE] = "no triangle at the nearest vertex has a least weight",
+    [KOSHIRGA_UNREACHED] = "the mesh is not connected",
 };
 
 /* Ends the program where a call was refused. */
 static void accepted(const char *call, uint32_t refusal) {
     size_t rows = sizeof REFUSALS / sizeof *REFUSALS;
-    if (refusal == 0)
+    if (refusal == KOSHIRGA_ACCEPTED)
         return;
     fprintf(stderr, "balloon: %s is refused (%u): %s\n", call, (unsigned)refusal,
-            refusal < rows ? REFUSALS[refusal] : "an unknown row");
+            refusal < rows && REFUSALS[refusal] ? REFUSALS[refusal] : "an unknown row");
     exit(1);
 }
 
@@ -133,13 +135,13 @@ static uint32_t *renumber_by_walk(balloon *b) {
 }
 
 static cube_grid make_grid(const balloon *b) {
-    /* The side, by document 01: the ceiling of root(count/6) * 1.2, at least 2. */
+    /* The side, as koshirga.h gives it: the ceiling of root(count/6) * 1.2, at least 2. */
     double side = koshirga_ceil(koshirga_sqrt((double)b->vertices / 6) * 1.2);
     cube_grid g = {.side = side < 2 ? 2 : (uint32_t)side};
     g.cell_starts_length = 6 * (size_t)g.side * g.side + 1;
     g.triangle_starts_length = b->vertices + 1;
     size_t ids_room = 27 * b->vertices;   /* three faces, nine cells each, at most */
-    size_t triples_room = 3 * b->entries; /* of a lattice: 60n^2 triples */
+    size_t triples_room = 3 * b->entries; /* of a lattice: 180n^2, three ids a triple */
     g.cell_starts = room(g.cell_starts_length, sizeof *g.cell_starts);
     g.cell_ids = room(ids_room, sizeof *g.cell_ids);
     g.triangle_starts = room(g.triangle_starts_length, sizeof *g.triangle_starts);

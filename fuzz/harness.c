@@ -138,14 +138,14 @@ static void analytic(draw *d) {
              e.first == at.first && e.second == at.second && e.third == at.third, "the triple");
         hold(ENTRY_analytic_locate, same(e.u, at.u) && same(e.v, at.v) && same(e.w, at.w),
              "the weights");
-        hold(ENTRY_analytic_locate, as_expected(0, false), "the id table changed");
+        hold(ENTRY_analytic_locate, as_expected(0), "the id table changed");
         count(ENTRY_analytic_locate, at.refusal);
 
         koshirga_vertex_answer f = expected_analytic_nearest(n, ids.expected, length, v);
         koshirga_vertex_answer vertex = koshirga_analytic_nearest(n, ids.at, length, v);
         hold_row(ENTRY_analytic_nearest, f.refusal, vertex.refusal);
         hold(ENTRY_analytic_nearest, f.id == vertex.id, "the vertex");
-        hold(ENTRY_analytic_nearest, as_expected(0, false), "the id table changed");
+        hold(ENTRY_analytic_nearest, as_expected(0), "the id table changed");
         count(ENTRY_analytic_nearest, vertex.refusal);
     }
 }
@@ -173,10 +173,10 @@ static void call_lattice(draw *d) {
     uint32_t row = koshirga_lattice(n, positions.at, lengths[0] + (MISREAD == 12), starts.at,
                                     lengths[1], entries.at, lengths[2], ids.at, lengths[3]);
     hold_row(ENTRY_lattice, expected, row);
-    hold(ENTRY_lattice, as_expected(0, false), "the positions");
-    hold(ENTRY_lattice, as_expected(1, false), "the starts");
-    hold(ENTRY_lattice, as_expected(2, false), "the entries");
-    hold(ENTRY_lattice, as_expected(3, false), "the id table");
+    hold(ENTRY_lattice, as_expected(0), "the positions");
+    hold(ENTRY_lattice, as_expected(1), "the starts");
+    hold(ENTRY_lattice, as_expected(2), "the entries");
+    hold(ENTRY_lattice, as_expected(3), "the id table");
     count(ENTRY_lattice, row);
     if (!row)
         count_lattice(n);
@@ -195,10 +195,10 @@ static mesh lend_mesh(draw *d, const mesh *m, mesh *expected) {
                   starts.length, entries.at,       entries.length};
 }
 
-static void hold_mesh(entry of, bool doubles) {
-    hold(of, as_expected(0, doubles), "the positions");
-    hold(of, as_expected(1, false), "the starts");
-    hold(of, as_expected(2, false), "the entries");
+static void hold_mesh(entry of) {
+    hold(of, as_expected(0), "the positions");
+    hold(of, as_expected(1), "the starts");
+    hold(of, as_expected(2), "the entries");
 }
 
 static void call_walk(draw *d, const mesh *drawn) {
@@ -214,9 +214,9 @@ static void call_walk(draw *d, const mesh *drawn) {
                       m.entries_length, order.at, order_length, queue.at, queue_length);
     hold_row(ENTRY_walk, expected.refusal, answer.refusal);
     hold(ENTRY_walk, expected.entries_read == answer.entries_read, "the count of entries");
-    hold_mesh(ENTRY_walk, false);
-    hold(ENTRY_walk, as_expected(3, false), "the order");
-    hold(ENTRY_walk, as_expected(4, false), "the queue");
+    hold_mesh(ENTRY_walk);
+    hold(ENTRY_walk, as_expected(3), "the order");
+    hold(ENTRY_walk, as_expected(4), "the queue");
     const uint32_t *ids = queue.at, *places = order.at;
     for (uint32_t i = 0; !answer.refusal && i < vertices; i++)
         hold(ENTRY_walk, ids[i] < vertices && places[ids[i]] == i, "queue and order are inverse");
@@ -302,9 +302,9 @@ static void call_renumber(draw *d, mesh *drawn) {
         scratch_lengths[0], scratch[1].at, scratch_lengths[1], scratch[2].at, scratch_lengths[2],
         scratch[3].at, scratch_lengths[3], scratch[4].at, scratch_lengths[4]);
     hold_row(ENTRY_renumber, expected, row);
-    hold_mesh(ENTRY_renumber, !row);
-    hold(ENTRY_renumber, as_expected(3, !row), "the values");
-    hold(ENTRY_renumber, as_expected(4, false), "the permutation");
+    hold_mesh(ENTRY_renumber);
+    hold(ENTRY_renumber, as_expected(3), "the values");
+    hold(ENTRY_renumber, as_expected(4), "the permutation");
     for (int i = 0; i < 5; i++)
         hold(ENTRY_renumber, as_expected_from(5 + i, row ? 0 : least), "scratch");
     count(ENTRY_renumber, row);
@@ -348,10 +348,10 @@ static grid lend_grid(draw *d, const grid *g, grid *expected) {
 }
 
 static void hold_grid(entry of) {
-    hold(of, as_expected(3, false), "the cell starts");
-    hold(of, as_expected(4, false), "the cell ids");
-    hold(of, as_expected(5, false), "the triangle starts");
-    hold(of, as_expected(6, false), "the triples");
+    hold(of, as_expected(3), "the cell starts");
+    hold(of, as_expected(4), "the cell ids");
+    hold(of, as_expected(5), "the triangle starts");
+    hold(of, as_expected(6), "the triples");
 }
 
 /* Cells and triangles that a built grid has: parts that are filled, ids below the count. */
@@ -410,7 +410,7 @@ static bool call_build_grid(draw *d, const mesh *drawn, grid *built, uint32_t *s
         g.triangle_starts_length, g.triples, g.triples_length);
     hold_row(ENTRY_build_grid, expected.refusal, answer.refusal);
     hold(ENTRY_build_grid, expected.side == answer.side, "the side");
-    hold_mesh(ENTRY_build_grid, false);
+    hold_mesh(ENTRY_build_grid);
     hold_grid(ENTRY_build_grid);
     count(ENTRY_build_grid, answer.refusal);
     if (answer.refusal)
@@ -448,7 +448,7 @@ static query lend_query(draw *d, const query *q, query *expected) {
 }
 
 static void hold_query(entry of) {
-    hold(of, as_expected(0, false), "the positions");
+    hold(of, as_expected(0), "the positions");
     hold_grid(of);
 }
 

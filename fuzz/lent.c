@@ -9,8 +9,6 @@
 #include <sys/mman.h>
 #include <unistd.h>
 
-#include "reading.h"
-
 enum {
     CAPACITY = 8 << 20, /* bytes of a slice */
     BESIDE = 64,        /* bytes at the open end that are compared */
@@ -65,21 +63,10 @@ static bool beside_untouched(const place *p) {
     return true;
 }
 
-static bool same_doubles(const place *p) {
-    for (size_t i = 0; i < p->bytes; i += sizeof(double)) {
-        double x, y;
-        memcpy(&x, p->at + i, sizeof x);
-        memcpy(&y, p->expected + i, sizeof y);
-        if (!same(x, y))
-            return false;
-    }
-    return true;
-}
-
-bool as_expected(int which, bool doubles) {
+bool as_expected(int which) {
     const place *p = &places[which];
     bool equal = p->bytes == 0 || memcmp(p->at, p->expected, p->bytes) == 0;
-    return beside_untouched(p) && (equal || (doubles && same_doubles(p)));
+    return beside_untouched(p) && equal;
 }
 
 bool as_expected_from(int which, size_t used) {

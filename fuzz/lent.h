@@ -22,9 +22,9 @@ typedef struct lent {
  */
 lent lend(int which, const void *from, size_t length, size_t size, bool behind);
 
-/* Whether slice `which` is what its copy says, and the bytes about it are untouched. Doubles may
- * differ in the bits of a NaN. */
-bool as_expected(int which, bool doubles);
+/* Whether slice `which` is what its copy says, byte for byte, and the bytes about it are untouched.
+ * A NaN too keeps its bits: no call writes one that it has worked out, and what is moved stays. */
+bool as_expected(int which);
 
 /* The same for scratch after an accepted call: its first `used` elements are free. */
 bool as_expected_from(int which, size_t used);

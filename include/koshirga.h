@@ -1,16 +1,36 @@
-/* Koshirga: exports of the archive libc_api.a, which `rt staticlib c_api` makes. A whole program that
- * uses them is examples/balloon.c.
+/* Koshirga: the calls of the archive libc_api.a, which `rt staticlib c_api` makes. A whole program
+ * that uses them is examples/balloon.c; docs/DATASHEET.md says what every call does, step by step.
  *
- * Clauses are those of IEEE 754-2019. All arithmetic is on binary64, rounded to nearest, ties to
- * even (4.3.1), one rounding an operation; a product and a sum are fused only where document 01
- * fuses them. Sign and payload of a NaN result are free. Every function accepts every argument and
- * keeps no state. The caller's floating-point environment is the default one: rounding to nearest,
- * subnormals not flushed to zero.
+ * Every function returns for every argument and keeps no state. All floating-point data is
+ * binary64. Each operation is rounded once, by the clauses of IEEE 754-2019 that the function's
+ * comment names; a product and a sum are fused only where a comment says so. Arithmetic on a NaN
+ * gives a NaN (6.2); sign and payload of a NaN result are free. The caller's floating-point
+ * environment is the default one: rounding to nearest, subnormals not flushed to zero.
  *
- * A slice is a pointer and the number of its elements. The pointer of an empty slice is not null
- * and is not read. Slices that are written overlap no other. Document 01 says what a mesh, an id
- * table and a grid are, and has the rows of refusals. An answer's first field is 0 where the call
- * was accepted, and otherwise the number of the refusing row; its other fields are then 0.
+ * Slices. A slice is a pointer and the number of its elements. The pointer of an empty slice is not
+ * null and is not read. Slices that are written overlap no other. The caller lends all memory.
+ *
+ * Data.
+ *   Mesh: 1 to 65536 vertices with ids from 0. positions holds x, y and z of each in turn. starts
+ *     has a place a vertex and one more: the neighbours of vertex v are entries[starts[v]] up to,
+ *     and without, entries[starts[v + 1]], at most 32 of them.
+ *   Lattice: the mesh that a frequency n from 1 to 80 gives, each of the icosahedron's twenty faces
+ *     (its master faces) cut into n^2 triangles and put on the unit sphere.
+ *   Id table: the ids of a lattice's points face by face, (n + 1)(n + 2)/2 slots each. The point
+ *     with the weights a, b and n - a - b on the face's corners has slot a(n + 1) - a(a - 1)/2 + b.
+ *   Grid: the six faces of a cube, each cut into g by g cells; g is its side. Cell c has the ids
+ *     cell_ids[cell_starts[c]] up to cell_ids[cell_starts[c + 1]]. The triangles at vertex v are
+ *     the triples from number triangle_starts[v] up to triangle_starts[v + 1]; triple t is the
+ *     ascending ids triples[3t], triples[3t + 1] and triples[3t + 2]. Positions are lent beside it.
+ *
+ * Target. x86-64 Linux: an ELF object, the System V calling convention, instructions of the first
+ * x86-64 processors (SSE2) alone. The code is position independent: it links with -pie, with
+ * -no-pie and into a shared library. To link it needs memset, which every C library has, and
+ * nothing else.
+ *
+ * Stack. koshirga_renumber takes 64 KiB and under 1 KiB more, also where it refuses. Every other
+ * function takes under 4 KiB, and under 1 KiB unless a square root falls back to working out its
+ * digits one by one, with a call for each. This was read from the archive's code and isn't proved.
  */
 #ifndef KOSHIRGA_H
 #define KOSHIRGA_H
@@ -19,37 +39,81 @@
 #include <stddef.h>
 #include <stdint.h>
 
+#define KOSHIRGA_VERSION_MAJOR 0
+#define KOSHIRGA_VERSION_MINOR 1
+#define KOSHIRGA_VERSION_PATCH 0
+
 #ifdef __cplusplus
 extern "C" {
 #endif
 
+/* ---- refusals */
+
+/* One of these is a call's result, or is in the first field of its answer, `refusal`. A call is
+ * refused by the first of its rows that holds; its comment names them by number, in their order.
+ * All other fields are then 0, and no slice is changed, but for KOSHIRGA_UNREACHED. Later versions
+ * add rows: take every number but KOSHIRGA_ACCEPTED for a refusal, also one that isn't here. */
+enum koshirga_refusal {
+    KOSHIRGA_ACCEPTED = 0,
+    /* The frequency is below 1 or above 80. */
+    KOSHIRGA_FREQUENCY = 1,
+    /* No vertex, over 65536, positions not three a vertex; or a side that isn't the count's. */
+    KOSHIRGA_COUNT = 2,
+    /* Starts: wrong length, not from 0, falling, past or short of their list; or a list over 32. */
+    KOSHIRGA_STARTS = 3,
+    /* An id is not below the vertex count. */
+    KOSHIRGA_ID = 4,
+    /* A position isn't finite, or its length is below 2^-20 or above 2^20 (about 1e-6 and 1e6). */
+    KOSHIRGA_POSITION = 5,
+    /* The permutation has a wrong length, or isn't one of the ids. */
+    KOSHIRGA_PERMUTATION = 6,
+    /* entries_per_vertex is neither 1 nor the vertex count. */
+    KOSHIRGA_ENTRIES_PER_VERTEX = 7,
+    /* A slice that is filled, scratch or the id table is too short. */
+    KOSHIRGA_ROOM = 8,
+    /* The direction isn't finite, or its length is below 2^-20 or above 2^20. */
+    KOSHIRGA_DIRECTION = 9,
+    /* The outside flags sum to over 3: for a long direction close to an icosahedron vertex. */
+    KOSHIRGA_FLAGS = 10,
+    /* No vertex is placed in the direction's cell: the mesh has gaps. */
+    KOSHIRGA_EMPTY_CELL = 11,
+    /* No triangle at the nearest vertex has a least weight above minus infinity. */
+    KOSHIRGA_NO_TRIANGLE = 12,
+    /* The walk doesn't reach a vertex: the mesh is in several parts. */
+    KOSHIRGA_UNREACHED = 13
+};
+
 /* ---- binary64 */
 
-/* How the bit pattern x stands to y in the total order (5.10): -1 below, 0 the same, 1 above. */
+/* How the bit pattern x stands to y in the total order (IEEE 754-2019, 5.10): -1 below, 0 the same,
+ * 1 above. All 2^64 patterns are ordered, NaNs by sign, kind and payload: 5.10 d) 3) i) and ii);
+ * the order of payloads, which that edition need not fix, is ours: the lesser below the greater for
+ * +NaN and the reverse for -NaN, as the 2008 edition and Rust's total_cmp have it. */
 int32_t koshirga_total_cmp(uint64_t x, uint64_t y);
 
-/* The place of x in the total order (5.10) of all 2^64 bit patterns, counted from 0. Every NaN
- * counts as the pattern 0x7ff8000000000000. */
+/* The place of x in the total order (IEEE 754-2019, 5.10) of all 2^64 bit patterns, counted from 0.
+ * Every NaN has one place, that of the pattern 0x7ff8000000000000. */
 uint64_t koshirga_rank(double x);
 
-/* The greatest whole number not above x: roundToIntegralTowardNegative (5.9). The sign stays,
- * also that of a zero (6.3). */
+/* The greatest whole number not above x: roundToIntegralTowardNegative (IEEE 754-2019, 5.9). An
+ * infinity stays (5.9), and a zero result has the sign of x (6.3). */
 double koshirga_floor(double x);
 
-/* The least whole number not below x: roundToIntegralTowardPositive (5.9). The sign stays, also
- * that of a zero (6.3). */
+/* The least whole number not below x: roundToIntegralTowardPositive (IEEE 754-2019, 5.9). An
+ * infinity stays (5.9), and a zero result has the sign of x (6.3). */
 double koshirga_ceil(double x);
 
-/* convertToIntegerTowardZero (5.8). Where the clause leaves the result open: the nearer end of
- * the range for a value or infinity beyond it, 0 for a NaN. */
+/* convertToIntegerTowardZero (IEEE 754-2019, 5.8). Where the clause leaves the result open: the
+ * nearer end of the range for a value or infinity beyond it, 0 for a NaN. */
 int64_t koshirga_to_i64(double x);
 
-/* a*b + c, exact and then rounded once: fusedMultiplyAdd (5.4.1). An exact zero sum of opposite
- * signs is +0, and a result that is rounded to zero keeps its sign (6.3). */
+/* a*b + c, exact and then rounded once, to nearest, ties to even: fusedMultiplyAdd (IEEE 754-2019,
+ * 5.4.1 and 4.3.1). An exact zero sum of opposite signs is +0, and a result that is rounded to zero
+ * keeps its sign (6.3). Zero times infinity, and opposite infinities, give a NaN (7.2). */
 double koshirga_mul_add(double a, double b, double c);
 
-/* The square root, exact and then rounded: squareRoot (5.4.1). The root of -0 is -0 (6.3), that
- * of a number below zero a NaN (7.2). */
+/* The square root, exact and then rounded to nearest, ties to even: squareRoot (IEEE 754-2019,
+ * 5.4.1 and 4.3.1). The root of -0 is -0 (6.3), that of a number below zero a NaN (7.2). */
 double koshirga_sqrt(double x);
 
 /* ---- vectors */
@@ -58,36 +122,39 @@ typedef struct koshirga_vector3 {
     double x, y, z;
 } koshirga_vector3;
 
-/* a.x*b.x + a.y*b.y + a.z*b.z, summed from the left: multiplication and addition (5.4.1). */
+/* a.x*b.x + a.y*b.y + a.z*b.z, summed from the left: multiplication and addition, each rounded to
+ * nearest, ties to even (IEEE 754-2019, 5.4.1 and 4.3.1). */
 double koshirga_dot(koshirga_vector3 a, koshirga_vector3 b);
 
-/* (a.y*b.z - a.z*b.y, a.z*b.x - a.x*b.z, a.x*b.y - a.y*b.x): multiplication and subtraction
- * (5.4.1). */
+/* (a.y*b.z - a.z*b.y, a.z*b.x - a.x*b.z, a.x*b.y - a.y*b.x): multiplication and subtraction, each
+ * rounded to nearest, ties to even (IEEE 754-2019, 5.4.1 and 4.3.1). */
 koshirga_vector3 koshirga_cross(koshirga_vector3 a, koshirga_vector3 b);
 
-/* a - b by component: subtraction (5.4.1). */
+/* a - b by component: subtraction (IEEE 754-2019, 5.4.1 and 4.3.1). */
 koshirga_vector3 koshirga_minus(koshirga_vector3 a, koshirga_vector3 b);
 
-/* a + b by component: addition (5.4.1). */
+/* a + b by component: addition (IEEE 754-2019, 5.4.1 and 4.3.1). */
 koshirga_vector3 koshirga_plus(koshirga_vector3 a, koshirga_vector3 b);
 
-/* Each component times factor: multiplication (5.4.1). */
+/* Each component times factor: multiplication (IEEE 754-2019, 5.4.1 and 4.3.1). */
 koshirga_vector3 koshirga_scale(koshirga_vector3 v, double factor);
 
-/* Each component divided by divisor: division (5.4.1). */
+/* Each component divided by divisor: division (IEEE 754-2019, 5.4.1 and 4.3.1). */
 koshirga_vector3 koshirga_divide(koshirga_vector3 v, double divisor);
 
-/* The squared length: koshirga_dot(v, v) (5.4.1). */
+/* The squared length: koshirga_dot(v, v) (IEEE 754-2019, 5.4.1 and 4.3.1). */
 double koshirga_norm_squared(koshirga_vector3 v);
 
-/* The length: koshirga_sqrt(koshirga_norm_squared(v)) (5.4.1). */
+/* The length: koshirga_sqrt(koshirga_norm_squared(v)) (IEEE 754-2019, 5.4.1 and 4.3.1). */
 double koshirga_norm(koshirga_vector3 v);
 
-/* Each component divided by the length: koshirga_divide(v, koshirga_norm(v)) (5.4.1). */
+/* Each component divided by the length: koshirga_divide(v, koshirga_norm(v)) (IEEE 754-2019, 5.4.1
+ * and 4.3.1). So the zero vector gives NaNs. */
 koshirga_vector3 koshirga_normalize(koshirga_vector3 v);
 
-/* 0 where v is accepted as a direction; 9 where a component isn't finite (5.7.2, isFinite) or
- * koshirga_norm_squared(v) is outside 2^-40..2^40 (5.11), ends accepted. */
+/* KOSHIRGA_ACCEPTED where v is accepted as a direction; KOSHIRGA_DIRECTION where a component isn't
+ * finite (IEEE 754-2019, 5.7.2, isFinite) or koshirga_norm_squared(v) is outside 2^-40..2^40
+ * (5.11), ends accepted. Positions of a mesh are tested likewise. */
 uint32_t koshirga_direction(koshirga_vector3 v);
 
 /* ---- weights */
@@ -96,12 +163,15 @@ typedef struct koshirga_weights {
     double u, v, w;
 } koshirga_weights;
 
-/* The weights of a, b and c at the point of the triangle that is closest to p (Ericson, pp.
- * 141-142); in va, vb and vc the first product is fused with the rounded second one. */
+/* The weights of a, b and c at the point of the triangle that is closest to p, after Christer
+ * Ericson, Real-Time Collision Detection, Morgan Kaufmann 2005, pp. 141-142
+ * (ClosestPtPointTriangle). In va, vb and vc the first product is fused with the rounded second
+ * one; every other operation is rounded by itself (IEEE 754-2019, 5.4.1 and 4.3.1). */
 koshirga_weights koshirga_projected_barycentric(koshirga_vector3 p, koshirga_vector3 a,
                                                 koshirga_vector3 b, koshirga_vector3 c);
 
-/* The least weight: NaN is skipped, and the earlier of equals stays. NaN where all three are. */
+/* The least weight: NaN is skipped, and the earlier of equals stays (IEEE 754-2019, 5.11). NaN
+ * where all three are. */
 double koshirga_least_weight(koshirga_weights weights);
 
 /* ---- walk and renumbering */
@@ -120,10 +190,11 @@ koshirga_walk_answer koshirga_walk(const double *positions, size_t positions_len
                                    uint32_t *order, size_t order_length,
                                    uint32_t *queue, size_t queue_length);
 
-/* Renumbers mesh and data by a permutation that holds the new id at each old one. values has
- * entries_per_vertex entries a vertex, 1 or the vertex count; a tail shorter than a slab is
- * untouched. The last five slices are scratch, each at least as long as the longest slice before
- * them. 0, or the number of the refusing row (2, 3, 4, 6, 7, 8), which changes nothing. */
+/* Renumbers mesh and data by a permutation that holds the new id at each old one, such as a walk's
+ * order. values has entries_per_vertex entries a vertex, 1 or the vertex count; a tail shorter than
+ * a slab is untouched. The last five slices are scratch, each at least as long as the longest slice
+ * before them. An id table keeps the lattice's own ids. Takes over 64 KiB of stack. Gives a
+ * refusal's number or 0. Rows 2, 3, 4, 6, 7, 8 change nothing. */
 uint32_t koshirga_renumber(double *positions, size_t positions_length,
                            uint32_t *starts, size_t starts_length,
                            uint16_t *entries, size_t entries_length,
@@ -144,23 +215,29 @@ typedef struct koshirga_face_answer {
 
 typedef struct koshirga_analytic_answer {
     uint32_t refusal, first, second, third;
-    double u, v, w;
+    double u, v, w; /* the weights of first, second and third */
 } koshirga_analytic_answer;
 
 typedef struct koshirga_vertex_answer {
     uint32_t refusal, id;
 } koshirga_vertex_answer;
 
-/* The master face of three symmetry signs and three outside flags, which weigh 1, 2 and 3. Row 10. */
+/* The master face of a direction, from its signs and flags. i, j and k: whether it is on the
+ * negative side of each of three symmetry planes; these pick four faces. first, second and third:
+ * whether it is outside each side plane of the first of them; these weigh 1, 2 and 3, and their sum
+ * picks the face. Row 10 where it is above 3. */
 koshirga_face_answer koshirga_choose_face(bool i, bool j, bool k, bool first, bool second,
                                           bool third);
 
-/* The lattice triangle that a direction meets, with the weights of its corners. ids is the id
- * table of the frequency. Rows 1, 8, 9, 10, 4. */
+/* The lattice triangle that a direction meets, with the weights of its corners. ids is the id table
+ * of the frequency. The direction is not normalised. The answer's ids are the lattice's own, also
+ * after the mesh was renumbered: take them through the permutation. Each operation is rounded by
+ * itself (IEEE 754-2019, 5.4.1 and 4.3.1; floor 5.9, conversion 5.8). Rows 1, 8, 9, 10, 4. */
 koshirga_analytic_answer koshirga_analytic_locate(uint32_t frequency, const uint16_t *ids,
                                                   size_t ids_length, koshirga_vector3 direction);
 
-/* The last corner of greatest weight in total order (5.10). Rows as above. */
+/* The last corner of that triangle with the greatest weight in total order (IEEE 754-2019, 5.10); a
+ * lattice id too. Rows as above. */
 koshirga_vertex_answer koshirga_analytic_nearest(uint32_t frequency, const uint16_t *ids,
                                                  size_t ids_length, koshirga_vector3 direction);
 
@@ -168,7 +245,8 @@ koshirga_vertex_answer koshirga_analytic_nearest(uint32_t frequency, const uint1
 
 /* Writes the lattice of a frequency from 1 to 80: 10n^2 + 2 vertices (three coordinates each), one
  * start more, 60n^2 entries, and the id table of 20(n + 1)(n + 2)/2 places; surplus places are
- * untouched. 0, or the number of the row that refuses (1, 8): then nothing is changed. */
+ * untouched. Each operation on coordinates is rounded by itself (IEEE 754-2019, 5.4.1 and 4.3.1).
+ * Gives a refusal's number or 0. Rows 1, 8 change nothing. */
 uint32_t koshirga_lattice(uint32_t frequency, double *positions, size_t positions_length,
                           uint32_t *starts, size_t starts_length, uint16_t *entries,
                           size_t entries_length, uint16_t *ids, size_t ids_length);
@@ -177,11 +255,22 @@ typedef struct koshirga_build_answer {
     uint32_t refusal, side;
 } koshirga_build_answer;
 
-/* Writes the cube grid of a mesh: 6g^2 + 1 cell starts, the cells' ids, a triangle start a vertex
- * and one more (in whole triples), and the triples. The side g is the ceiling of root(count/6)*1.2,
- * at least 2. A vertex needs at most 27 cell ids, and a lattice 60n^2 triples; the last start of
- * either list says how many there are. Queries take the slices cut to these lengths. Rows 2, 3, 4,
- * 5, 8 change nothing. */
+/* Writes the cube grid of a mesh. Its side g is the greater of 2 and
+ * koshirga_ceil(koshirga_sqrt(count / 6.0) * 1.2): division, root and product (IEEE 754-2019, 5.4.1
+ * and 4.3.1), ceiling (5.9). Places that are needed:
+ *   cell_starts      6g^2 + 1
+ *   cell_ids         at most 27 a vertex: nine cells on each of at most three cube faces, as of two
+ *                    opposite faces a vertex is placed on one at most
+ *   triangle_starts  one a vertex and one more
+ *   triples          three ids for each triple, and each triangle is a triple at each of its three
+ *                    vertices: 180n^2 for a lattice. For any mesh at most 9L(L - 1)/2 for each
+ *                    neighbour list of L entries, repeats among them or not, as a triangle is two
+ *                    places of its least vertex's list: at most 4464 a vertex, as L is at most 32.
+ * The bounds 27 and 4464 come from counting and are no theorems of the proofs, nor is 180n^2, which
+ * was seen for all 80 frequencies; where room is short, row 8 refuses. Surplus is untouched; the
+ * last start of either list says how many ids or triples there are, and queries take the slices cut
+ * to these lengths. Vertices are placed by division, fused multiply-add and product (IEEE 754-2019,
+ * 5.4.1 and 4.3.1) and conversion (5.8). Rows 2, 3, 4, 5, 8 change nothing. */
 koshirga_build_answer koshirga_build_grid(const double *positions, size_t positions_length,
                                           const uint32_t *starts, size_t starts_length,
                                           const uint16_t *entries, size_t entries_length,
@@ -194,16 +283,19 @@ koshirga_build_answer koshirga_build_grid(const double *positions, size_t positi
 
 typedef struct koshirga_nearest_answer {
     uint32_t refusal, id, candidates;
-    double distance;
+    double distance; /* SQUARED, from the normalised direction to the position as it is stored */
 } koshirga_nearest_answer;
 
 typedef struct koshirga_located_answer {
     uint32_t refusal, first, second, third;
-    double u, v, w, least;
+    double u, v, w, least; /* the weights of first, second and third, and the least of them */
 } koshirga_located_answer;
 
-/* The first candidate of the direction's cell with the least squared distance in total order
- * (5.10), and how many candidates were compared. Rows 2, 3, 9, 3, 11, 4. */
+/* The first candidate of the direction's cell with the least squared distance in total order (IEEE
+ * 754-2019, 5.10), and how many candidates were compared. It is the nearest of the cell and not
+ * always of the mesh. The direction is normalised first; that and the distances are rounded as the
+ * vector calls round, and the cell is found by division, fused multiply-add and product (IEEE
+ * 754-2019, 5.4.1 and 4.3.1) and conversion (5.8). Rows 2, 3, 9, 3, 11, 4. */
 koshirga_nearest_answer koshirga_grid_nearest(const double *positions, size_t positions_length,
                                               uint32_t side, const uint32_t *cell_starts,
                                               size_t cell_starts_length, const uint16_t *cell_ids,
@@ -212,8 +304,9 @@ koshirga_nearest_answer koshirga_grid_nearest(const double *positions, size_t po
                                               size_t triangle_starts_length,
                                               koshirga_vector3 direction);
 
-/* The triangle at the nearest vertex whose least weight is the greatest, the first of equals.
- * Rows as above, then 3, 4, 12. */
+/* The triangle at the nearest vertex whose least weight is the greatest, the first of equals. The
+ * weights are those of koshirga_projected_barycentric for the normalised direction, rounded as
+ * there (IEEE 754-2019, 5.4.1 and 4.3.1). Rows as above, then 3, 4, 12. */
 koshirga_located_answer koshirga_grid_locate(const double *positions, size_t positions_length,
                                              uint32_t side, const uint32_t *cell_starts,
                                              size_t cell_starts_length, const uint16_t *cell_ids,

@@ -3,8 +3,10 @@
 use crate::ffi;
 use std::cmp::Ordering;
 
-/// How the bit pattern `x` stands to `y` in the total order (5.10). Patterns and not doubles, as
-/// the order tells NaNs apart by sign, kind and payload.
+/// How the bit pattern `x` stands to `y` in the total order (IEEE 754-2019, 5.10). Patterns and not
+/// doubles, as the order tells NaNs apart by sign, kind and payload: 5.10 d) 3) i) and ii). The
+/// order of payloads, which that edition need not fix, is ours: the lesser below the greater for
+/// +NaN, the reverse for −NaN, as the 2008 edition and [`f64::total_cmp`] have it.
 ///
 /// ```
 /// let (negative, positive) = (f64::to_bits(-0.0), f64::to_bits(0.0));
@@ -19,8 +21,8 @@ pub fn total_cmp(x: u64, y: u64) -> Ordering {
     }
 }
 
-/// The place of `x` in the total order (5.10) of all 2^64 bit patterns, counted from 0. Every
-/// NaN counts as the pattern `0x7ff8_0000_0000_0000`.
+/// The place of `x` in the total order (IEEE 754-2019, 5.10) of all 2^64 bit patterns, counted
+/// from 0. Every NaN has one place, that of the pattern `0x7ff8_0000_0000_0000`.
 ///
 /// ```
 /// assert_eq!(koshirga::rank(0.0), koshirga::rank(-0.0) + 1);
@@ -29,20 +31,20 @@ pub fn rank(x: f64) -> u64 {
     ffi::koshirga_rank(x)
 }
 
-/// The greatest whole number not above `x` (5.9, roundToIntegralTowardNegative). The sign stays,
-/// also that of a zero (6.3).
+/// The greatest whole number not above `x`: roundToIntegralTowardNegative (IEEE 754-2019, 5.9). An
+/// infinity stays (5.9), a zero result has the sign of `x` (6.3), and a NaN gives a NaN (6.2).
 pub fn floor(x: f64) -> f64 {
     ffi::koshirga_floor(x)
 }
 
-/// The least whole number not below `x` (5.9, roundToIntegralTowardPositive). The sign stays, also
-/// that of a zero (6.3).
+/// The least whole number not below `x`: roundToIntegralTowardPositive (IEEE 754-2019, 5.9). An
+/// infinity stays (5.9), a zero result has the sign of `x` (6.3), and a NaN gives a NaN (6.2).
 pub fn ceil(x: f64) -> f64 {
     ffi::koshirga_ceil(x)
 }
 
-/// `x` cut toward zero (5.8, convertToIntegerTowardZero): the nearer end of the range for values
-/// beyond it, 0 for a NaN.
+/// `x` cut toward zero: convertToIntegerTowardZero (IEEE 754-2019, 5.8). Where the clause leaves
+/// the result open: the nearer end of the range for values beyond it, 0 for a NaN.
 ///
 /// ```
 /// assert_eq!(koshirga::to_i64(-1.5), -1);
@@ -52,9 +54,10 @@ pub fn to_i64(x: f64) -> i64 {
     ffi::koshirga_to_i64(x)
 }
 
-/// a·b + c, exact and then rounded once to nearest, ties to even (5.4.1, fusedMultiplyAdd; 4.3.1).
-/// An exact zero sum of opposite signs is +0, and a result that is rounded to zero keeps its sign
-/// (6.3).
+/// a·b + c, exact and then rounded once, to nearest, ties to even: fusedMultiplyAdd (IEEE 754-2019,
+/// 5.4.1 and 4.3.1). An exact zero sum of opposite signs is +0, and a result that is rounded to
+/// zero keeps its sign (6.3). A NaN gives a NaN (6.2), and so do zero times infinity and opposite
+/// infinities (7.2).
 ///
 /// ```
 /// let (x, y) = (1.0 + f64::EPSILON, -(1.0 + 2.0 * f64::EPSILON));
@@ -65,8 +68,9 @@ pub fn mul_add(a: f64, b: f64, c: f64) -> f64 {
     ffi::koshirga_mul_add(a, b, c)
 }
 
-/// The square root, exact and then rounded to nearest, ties to even (5.4.1, squareRoot; 4.3.1).
-/// The root of −0 is −0 (6.3), that of a number below zero a NaN (7.2).
+/// The square root, exact and then rounded to nearest, ties to even: squareRoot (IEEE 754-2019,
+/// 5.4.1 and 4.3.1). The root of −0 is −0 (6.3), that of a number below zero a NaN (7.2); a NaN
+/// gives a NaN (6.2).
 ///
 /// ```
 /// assert_eq!(koshirga::sqrt(2.25), 1.5);

@@ -1,6 +1,6 @@
 //! The archive's exports, as `include/koshirga.h` declares them, and the crate's only unsafe code.
-//! Each accepts every argument, so each is `safe` to call but those that take slices: pointer and
-//! length have to be a slice's. These are called below, by functions that take the slices.
+//! Each returns for every argument, so each is `safe` to call but those that take slices: pointer
+//! and length have to be a slice's. These are called below, by functions that take the slices.
 
 use crate::{Grid, GridMut, Mesh, MeshMut, Scratch, Vector3, Weights};
 
@@ -395,5 +395,23 @@ mod tests {
         let source = include_str!("ffi.rs");
         assert_eq!(declared, functions(source, "fn "));
         assert!(declared.contains("koshirga_grid_locate"), "{declared:?}");
+    }
+
+    /// The header's version is this crate's.
+    #[test]
+    fn versions_are_equal() {
+        let header = include_str!("../../include/koshirga.h");
+        for (part, ours) in [
+            ("MAJOR", env!("CARGO_PKG_VERSION_MAJOR")),
+            ("MINOR", env!("CARGO_PKG_VERSION_MINOR")),
+            ("PATCH", env!("CARGO_PKG_VERSION_PATCH")),
+        ] {
+            let define = format!("#define KOSHIRGA_VERSION_{part} ");
+            let values: Vec<&str> = header
+                .lines()
+                .filter_map(|line| line.strip_prefix(define.as_str()))
+                .collect();
+            assert_eq!(values, [ours], "{part}");
+        }
     }
 }

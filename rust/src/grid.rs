@@ -26,7 +26,7 @@ pub struct Nearest {
     pub id: u32,
     /// How many candidates were compared: the ids in the direction's cell.
     pub candidates: u32,
-    /// The squared distance of the normalised direction and the vertex.
+    /// The squared distance from the normalised direction to the vertex's position as it is stored.
     pub distance: f64,
 }
 
@@ -46,11 +46,13 @@ pub struct Located {
 pub struct GridMut<'a> {
     /// 6g² + 1 places.
     pub cell_starts: &'a mut [u32],
-    /// At most 27 places a vertex.
+    /// At most 27 places a vertex: nine cells on each of at most three cube faces.
     pub cell_ids: &'a mut [u16],
     /// A place a vertex and one more.
     pub triangle_starts: &'a mut [u32],
-    /// Nine places for each triangle, which is listed at each of its three vertices.
+    /// Nine places for each triangle, three ids at each of its three vertices: 180n² for a lattice.
+    /// A neighbour list of L entries has at most L(L − 1)/2 triangles at its vertex as the least
+    /// corner, so that 4464 places a vertex are always enough.
     pub triples: &'a mut [u16],
 }
 
@@ -68,8 +70,9 @@ pub fn build_grid(mesh: Mesh, grid: GridMut) -> Result<u32, Refusal> {
 
 impl Grid<'_> {
     /// The first candidate of the direction's cell with the least squared distance in total order
-    /// (5.10). The triples are not read. Rows 2, 3, 9, then of the cell 3, 11 and 4 refuse, in
-    /// this order.
+    /// (IEEE 754-2019, 5.10). The direction is normalised first; that and the distances are rounded
+    /// as [`Vector3`]'s operations are (5.4.1 and 4.3.1). The triples are not read. Rows 2, 3, 9,
+    /// then of the cell 3, 11 and 4 refuse, in this order.
     pub fn find_nearest_vertex(&self, direction: Vector3) -> Result<Nearest, Refusal> {
         let answer = ffi::grid_nearest(*self, direction);
         Refusal::check(answer.refusal)?;
@@ -129,7 +132,7 @@ impl<'a> FaceGrid<'a> {
         // What is refused needs no more room than what is accepted.
         let count = (mesh.positions.len() / 3).min(GREATEST_COUNT);
         let side = ceil(sqrt(count as f64 / 6.0) * 1.2).max(2.0) as usize;
-        // A triangle is found at its least vertex, as a pair of that one's list.
+        // A triangle is found at its least vertex, as a pair of places of that one's list.
         let lists = mesh.starts.windows(2).take(count);
         let pairs = lists.map(|ends| {
             let length = (ends[1].saturating_sub(ends[0]) as usize).min(GREATEST_LIST);

@@ -2,8 +2,8 @@
 //!
 //! The exports are those of `include/koshirga.h`; each has its call here, over lent slices.
 //! [`LatticeGeometry`], [`MeshData`] and [`FaceGrid`] make the same calls with lists of their own.
-//! Clauses are those of IEEE 754-2019, rows those of document 01's table "Refused, by the place of
-//! the check"; see [`Refusal`].
+//! Why a call may be refused is listed at [`Refusal`]; what each call does, step by step, is in
+//! `docs/DATASHEET.md`.
 //!
 //! Which measured points stand around a direction, and with which weights:
 //!

@@ -60,7 +60,8 @@ pub fn bfs_vertex_permutation(
 
 /// Renumbers mesh and data by a permutation that holds the new id at each old one. The data has 1
 /// or as many entries a vertex as there are vertices, and in the second form both indices move; a
-/// tail shorter than a slab is untouched. Rows 2, 3, 4, 6, 7 and 8 change nothing.
+/// tail shorter than a slab is untouched. Rows 2, 3, 4, 6, 7 and 8 change nothing. An id table is
+/// not renumbered: it keeps the lattice's own ids. The call takes over 64 KiB of stack.
 ///
 /// [`MeshData::apply_vertex_permutation`](crate::MeshData::apply_vertex_permutation) brings the
 /// scratch itself.

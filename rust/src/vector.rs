@@ -22,7 +22,8 @@ pub struct Vector3 {
     pub z: f64,
 }
 
-/// Each operation is the stated sequence of single roundings (4.3.1, 5.4.1).
+/// Each operation is the stated sequence of additions, subtractions, multiplications, divisions and
+/// roots, each rounded once, to nearest, ties to even (IEEE 754-2019, 5.4.1 and 4.3.1).
 impl Vector3 {
     /// The zero vector.
     pub const ZERO: Vector3 = Vector3::new(0.0, 0.0, 0.0);
@@ -77,8 +78,9 @@ impl Vector3 {
         ffi::koshirga_normalize(self)
     }
 
-    /// Whether the vector is accepted as a direction: finite components, and a squared length
-    /// from 2^−40 to 2^40, ends included. Refused by row 9 otherwise.
+    /// Whether the vector is accepted as a direction: finite components (IEEE 754-2019, 5.7.2,
+    /// isFinite), and a [squared length](Vector3::norm_squared) from 2^−40 to 2^40, ends included
+    /// (5.11): so lengths from 2^−20 to 2^20, about 1e-6 to 1e6. Refused by row 9 otherwise.
     pub fn check_direction(self) -> Result<(), Refusal> {
         Refusal::check(ffi::koshirga_direction(self))
     }

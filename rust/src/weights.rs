@@ -14,9 +14,10 @@ pub struct Weights {
     pub w: f64,
 }
 
-/// The weights of `a`, `b` and `c` at the point of the triangle that is closest to `p` (Ericson,
-/// Real-Time Collision Detection, pp. 141–142). In va, vb and vc the first product is fused (5.4.1)
-/// with the rounded second one; all else is rounded step by step.
+/// The weights of `a`, `b` and `c` at the point of the triangle that is closest to `p`, after
+/// Christer Ericson, Real-Time Collision Detection, Morgan Kaufmann 2005, pp. 141–142
+/// (ClosestPtPointTriangle). In va, vb and vc the first product is fused with the rounded second
+/// one; every other operation is rounded by itself (IEEE 754-2019, 5.4.1 and 4.3.1).
 ///
 /// ```
 /// use koshirga::{projected_barycentric, Vector3, Weights};
@@ -29,7 +30,8 @@ pub fn projected_barycentric(p: Vector3, a: Vector3, b: Vector3, c: Vector3) -> 
     ffi::koshirga_projected_barycentric(p, a, b, c)
 }
 
-/// The least weight. A NaN is skipped, and the earlier of equals stays.
+/// The least weight. A NaN is skipped, and the earlier of equals stays (IEEE 754-2019, 5.11). NaN
+/// where all three are.
 pub fn least_weight(weights: Weights) -> f64 {
     ffi::koshirga_least_weight(weights)
 }

@@ -1,4 +1,4 @@
--- The sub-triangle of a master face that holds a point, as `locate` of the source (000) finds it. Definitions only.
+-- The sub-triangle of a master face that holds a point, as `locate` of the source (000) finds it. Each `add`, `sub` and `mul` is rounded once, to nearest, ties to even (IEEE 754-2019, 4.3.1). Definitions only.
 use Prim.Native.Nat.{ℕ, _+_, _-_, min}
 use mathlib.Core.Bool.{cond}
 use lib.IntN.{ℤ, pos, negsuc}
@@ -19,7 +19,7 @@ abbrev pub clampTo : ℕ → ℤ → ℕ
 clampTo n (pos m) = min m n
 clampTo n (negsuc m) = 0
 
--- `(u.floor() as i64).clamp(0, max)`
+-- `(u.floor() as i64).clamp(0, max)`: the floor is exact (IEEE 754-2019, 5.9), and so is its conversion (IEEE 754-2019, 5.8) but at the ends of the range
 unfoldable pub clampedFloor : ℕ → Float → ℕ
 clampedFloor n u = clampTo n (toI64 (floorOf u))
 

@@ -1,4 +1,4 @@
--- Christer Ericson, Real-Time Collision Detection (2005), pp. 141–142, ClosestPtPointTriangle: the barycentric coordinates (u, v, w) of the point of the triangle ABC that is closest to P. Definitions only.
+-- Christer Ericson, Real-Time Collision Detection (Morgan Kaufmann, 2005), pp. 141–142, ClosestPtPointTriangle: the barycentric coordinates (u, v, w) of the point of the triangle ABC that is closest to P. Definitions only.
 -- Each step is rounded once (IEEE 754-2019, 4.3.1) and bears the book's name. A region is named by the vertex, edge or face that it belongs to.
 use mathlib.Core.Bool.{cond, _&&_}
 use lib.Ieee.{Float, binary64, ofBits, neg, add, sub, mul, div, le}

@@ -29,7 +29,7 @@ impl Weights {
     }
 }
 
-// The weights of the point of the triangle a, b, c that is closest to p (Ericson, Real-Time Collision Detection, pp. 141–142).
+// The weights of the point of the triangle a, b, c that is closest to p (Christer Ericson, Real-Time Collision Detection, Morgan Kaufmann 2005, pp. 141–142).
 // The tests ask for the signs of vc, vb and va; the values are worked out in the face region alone.
 pub fn projected_barycentric(p: Vector3, a: Vector3, b: Vector3, c: Vector3) -> Weights
     ensures { λ r. ⌜ r ≡ projectedBarycentric p a b c ⌝ }

@@ -17,7 +17,7 @@ awayFromZero positive s = not s
 abbrev pub wholeMagnitude : Bool → ℕ → ℕ → ℕ
 wholeMagnitude away a c = a / c + cond (away && not (eqb (a % c) 0)) 1 0
 
--- IEEE 754-2019, 5.9: roundToIntegralTowardNegative and roundToIntegralTowardPositive. The sign stays, also that of a zero (6.3); an infinity and a NaN stay (6.1, 6.2).
+-- IEEE 754-2019, 5.9: roundToIntegralTowardNegative and roundToIntegralTowardPositive. The sign stays, also that of a zero (6.3); an infinity stays (5.9's own sentence), and so does a NaN (6.2).
 -- The whole magnitude is a value of the format, so that `round` changes nothing (`integral-exact`).
 unfoldable pub roundToIntegral : Toward → Float → Float
 unfolding round

@@ -11,18 +11,18 @@ use Rattle.binary64.specs.declared.Ordering.the-variants.{Less, Equal, G
 abbrev pub isNegative : ℕ → Bool
 isNegative b = leb (2 ^ 63) b
 
--- IEEE 754-2019, 6.2.1: a NaN is quiet where the first of its 52 trailing significand digits is 1, and signaling otherwise. The 51 digits behind it are its payload.
+-- IEEE 754-2019, 6.2.1: a NaN is quiet where the first of its 52 trailing significand digits is 1, and signaling otherwise. The clause says "should"; it holds of every machine that this engine is built for. The 51 digits behind it are its payload.
 abbrev pub isQuiet : ℕ → Bool
 isQuiet b = leb (2 ^ 51) (b % 2 ^ 52)
 
 abbrev pub payload : ℕ → ℕ
 payload b = b % 2 ^ 51
 
--- IEEE 754-2019, 5.10 d) 3) for +NaN: signaling orders below quiet; where both are alike, the lesser payload orders below the greater.
+-- IEEE 754-2019, 5.10 d) 3) ii) for +NaN: signaling orders below quiet. The order of payloads, which that edition need not fix, is ours: the lesser below the greater, as the 2008 edition and Rust's `total_cmp` have it.
 unfoldable pub positiveNanOrder : ℕ → ℕ → Bool
 positiveNanOrder x y = cond (Bool·beq (isQuiet x) (isQuiet y)) (leb (payload x) (payload y)) (isQuiet y)
 
--- IEEE 754-2019, 5.10 d) 3) for two NaNs: the negative sign orders below the positive; for −NaN the rest is reversed.
+-- IEEE 754-2019, 5.10 d) 3) i) for two NaNs: the negative sign orders below the positive. For −NaN ii) and the order of payloads are reversed.
 unfoldable pub nanOrder : ℕ → ℕ → Bool
 unfolding positiveNanOrder
 nanOrder x y =

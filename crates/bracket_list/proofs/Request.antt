@@ -70,11 +70,15 @@ some-chosen false false true d ne = record { least = omega arith; greatest = ome
 some-chosen false false false true ne = record { least = omega arith; greatest = omega arith; listed = refl }
 some-chosen false false false false ne = absurd (ne refl)
 
-module _ (input : List ℕ) where
-  pub listing-refused : requestedFrequency input ≡ 0 → latticeListing input ≡ refusedLine
+-- n is what `requested` answers
+module _ (input : List ℕ) {n : ℕ} (answered : n ≡ requestedFrequency input) where
+  pub listing-refused : n ≡ 0 → latticeListing input ≡ refusedLine
   unfolding requestedFrequency latticeListing
-  listing-refused e = none-chosen (sameNumbers input (request 49)) (sameNumbers input (request 50)) (sameNumbers input (request 51)) (sameNumbers input (request 52)) e
+  listing-refused e =
+      none-chosen (sameNumbers input (request 49)) (sameNumbers input (request 50)) (sameNumbers input (request 51)) (sameNumbers input (request 52)) (sym answered ∙ e)
 
-  pub listing-asked : (requestedFrequency input ≡ 0 → ⊥) → Asked (requestedFrequency input) (latticeListing input)
+  pub listing-asked : (n ≡ 0 → ⊥) → Asked n (latticeListing input)
   unfolding requestedFrequency latticeListing
-  listing-asked ne = some-chosen (sameNumbers input (request 49)) (sameNumbers input (request 50)) (sameNumbers input (request 51)) (sameNumbers input (request 52)) ne
+  listing-asked ne =
+      rw answered
+      (some-chosen (sameNumbers input (request 49)) (sameNumbers input (request 50)) (sameNumbers input (request 51)) (sameNumbers input (request 52)) (λ e. ne (answered ∙ e)))

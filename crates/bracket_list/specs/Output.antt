@@ -3,7 +3,7 @@ use Prim.Native.Nat.{ℕ, zero, suc, _+_, _≤_}
 use mathlib.Core.Path.{_≡_}
 use mathlib.Core.Bool.{cond}
 use mathlib.Core.List.{List, _∷_, _++_}
-use lib.ListN.{length, take}
+use lib.ListN.{length}
 use lib.Seq.{sets}
 use Rattle.sequences.specs.Starts.{concatenate, part}
 use Rattle.sequences.specs.Equality.{sameNumbers}
@@ -11,9 +11,10 @@ use Rattle.lattice.specs.Lattice.{latticeMesh}
 use Rattle.bracket_list.specs.Text.{space, spaced, bracketed, field, line, decimal}
 use Rattle.bracket_list.specs.LatticeList.{latticeWord, frequencyWord, verticesWord, entriesWord, vertexWord, walkWord, request}
 
--- A text was written from a place on, and `next` is the place behind it. Every other place is as it was.
+-- A text was written from a place on and ends within the slice; `next` is the place behind it. Every other place is as it was.
 pub record Written (place : ℕ) (text before : List ℕ) (next : ℕ) (after : List ℕ) : Type 0 where
   pub behind : next ≡ place + length text
+  pub within : next ≤ length before
   pub size : length after ≡ length before
   pub stored : after ≡ sets before place text
 
@@ -49,12 +50,6 @@ unfoldable pub requestedFrequency : List ℕ → ℕ
 requestedFrequency input =
     cond (sameNumbers input (request 49)) 1
     (cond (sameNumbers input (request 50)) 2 (cond (sameNumbers input (request 51)) 3 (cond (sameNumbers input (request 52)) 4 0)))
-
--- A text stands at the front of the output, so many bytes of it.
-pub record Printed (text : List ℕ) (size : ℕ) (output : List ℕ) : Type 0 where
-  pub within : size ≤ length output
-  pub counted : size ≡ length (take size output)
-  pub front : take size output ≡ text
 
 -- The neighbour lists of a lattice that can be listed: "N one digit from 1 to 4".
 pub record LatticeRows (n : ℕ) (starts entries : List ℕ) : Type 0 where

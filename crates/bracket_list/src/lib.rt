@@ -8,7 +8,7 @@ ghost use Rattle.lattice.specs.Lattice.{latticeMesh};
 ghost use Rattle.bracket_list.specs.Text.{decimal, spaced};
 ghost use Rattle.bracket_list.specs.LatticeList.{meshListing, latticeListing};
 ghost use Rattle.sequences.specs.Equality.{sameNumbers};
-ghost use Rattle.bracket_list.specs.Output.{Written, separated, headText, vertexText, verticesText, walkText, listingText, requestedFrequency, Printed, LatticeRows};
+ghost use Rattle.bracket_list.specs.Output.{Written, separated, headText, vertexText, verticesText, walkText, listingText, requestedFrequency, LatticeRows};
 
 fn put_byte(output: &mut [u8], place: usize, byte: u8) -> usize
     requires { ⌜ place < length (now output) ⌝ }
@@ -161,7 +161,7 @@ fn write_listing(
 // Walks a lattice, by its neighbour lists, and lists it.
 fn list_mesh(frequency: u32, starts: &[u32], entries: &[u16], output: &mut [u8; 16384]) -> usize
     requires { ⌜ LatticeRows frequency (now starts) (now entries) ⌝ }
-    ensures { λ r. ⌜ Printed (meshListing frequency (latticeMesh frequency)) r (now (output .exit)) ⌝ }
+    ensures { λ r. ⌜ Written 0 (meshListing frequency (latticeMesh frequency)) (now (output .entry)) r (now (output .exit)) ⌝ }
 {
     let count = starts.len() - 1;
     let mut order = [0u32; 162];
@@ -209,7 +209,7 @@ fn requested(input: &[u8]) -> u32
 // Makes the lattice of a frequency, and lists it.
 fn list_lattice(frequency: u32, output: &mut [u8; 16384]) -> usize
     requires { ⌜ (1 ≤ frequency) × (frequency ≤ 4) ⌝ }
-    ensures { λ r. ⌜ Printed (meshListing frequency (latticeMesh frequency)) r (now (output .exit)) ⌝ }
+    ensures { λ r. ⌜ Written 0 (meshListing frequency (latticeMesh frequency)) (now (output .entry)) r (now (output .exit)) ⌝ }
 {
     let mut positions = [0.0f64; 486];
     let mut starts = [0u32; 163];
@@ -233,9 +233,9 @@ fn list_lattice(frequency: u32, output: &mut [u8; 16384]) -> usize
     )
 }
 
-// What the program `lattice-list` prints for what it read: so many bytes from the front of the output.
+// What the program `lattice-list` prints for what it read: so many bytes from the front of the output, whose other places are untouched.
 pub fn lattice_list(input: &[u8], output: &mut [u8; 16384]) -> usize
-    ensures { λ r. ⌜ Printed (latticeListing (now (input .entry))) r (now (output .exit)) ⌝ }
+    ensures { λ r. ⌜ Written 0 (latticeListing (now (input .entry))) (now (output .entry)) r (now (output .exit)) ⌝ }
 {
     let frequency = requested(input);
     if frequency == 0 {

@@ -1,4 +1,5 @@
-// Fused multiply-add on doubles: the exact product plus the addend in two words, rounded once.
+// Fused multiply-add on doubles: the exact product plus the addend in two words, rounded once, to
+// nearest, ties to even (IEEE 754-2019, 5.4.1 and 4.3.1).
 ghost use mathlib.Core.Path.{_≡_};
 ghost use mathlib.Core.Bool.{false, _&&_};
 ghost use Prim.Native.Nat.{_+_, _-_, _*_, _^_, _<_};
@@ -69,8 +70,8 @@ fn exact_addend(z: Unpacked) -> Scaled
     }
 }
 
-// Product and addend of one exponent, added with their signs and rounded. An exact zero from
-// opposite signs is +0.
+// Product and addend of one exponent, added with their signs and rounded (IEEE 754-2019, 4.3.1). An
+// exact zero from opposite signs is +0 (IEEE 754-2019, 6.3).
 fn add_aligned(
     product_negative: bool,
     product: TwoWords,
@@ -102,7 +103,8 @@ fn add_aligned(
     rounding::round_and_pack(product_negative, difference, exponent)
 }
 
-// Product and addend, the one of the lower exponent aligned with the other, added and rounded.
+// Product and addend, the one of the lower exponent aligned with the other, added and rounded (IEEE
+// 754-2019, 4.3.1).
 fn align_and_add(
     product_negative: bool,
     product: Scaled,
@@ -155,7 +157,7 @@ fn mul_add_finite(a: f64, b: f64, c: f64) -> f64
     align_and_add(negative, product, z.negative, addend)
 }
 
-// a * b + c, rounded once.
+// a * b + c, rounded once (IEEE 754-2019, 4.3.1).
 pub fn mul_add(a: f64, b: f64, c: f64) -> f64
     ensures { λ r. ⌜ r ≡ fusedMultiplyAdd binary64 a b c ⌝ }
 {
@@ -170,7 +172,7 @@ pub fn mul_add(a: f64, b: f64, c: f64) -> f64
 // double above it is a double.
 const NOT_TINY: f64 = 1.1830521861667747e-271;
 
-// Whether a * b - c, rounded once, is at most 0. Where the product rounded alone is not c, it lies
+// Whether a * b - c, rounded once (IEEE 754-2019, 4.3.1), is at most 0. Where the product rounded alone is not c, it lies
 // on the same side of c, and the exact sum is not worked out.
 pub fn product_at_most(a: f64, b: f64, c: f64) -> bool
     ensures { λ r. ⌜ r ≡ le (fusedMultiplyAdd binary64 a b (neg c)) (ofBits binary64 0) ⌝ }
@@ -182,7 +184,8 @@ pub fn product_at_most(a: f64, b: f64, c: f64) -> bool
     mul_add(a, b, -c) <= 0.0
 }
 
-// x * 0.5 + 0.5, rounded once. Halving is exact, so that the sum alone is rounded.
+// x * 0.5 + 0.5, rounded once (IEEE 754-2019, 4.3.1). Halving is exact, so that the sum alone is
+// rounded.
 pub fn mul_add_halves(x: f64) -> f64
     ensures { λ r. ⌜ r ≡ fusedMultiplyAdd binary64 x half half ⌝ }
 {

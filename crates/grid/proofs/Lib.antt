@@ -9,3 +9,4 @@ pub mod Cells
 pub mod Triangles
 pub mod Grid
 pub mod Room
+pub mod BuiltBelow

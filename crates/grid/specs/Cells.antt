@@ -18,14 +18,14 @@ sideFactor = fin false 5404319552844595 (negsuc 51)
 abbrev pub margin : ℕ
 margin = 1
 
--- "Side g = the ceiling of root(count/6)·1.2, at least 2"
+-- "Side g = the ceiling of root(count/6)·1.2, at least 2". Quotient, root and product are each rounded once, to nearest, ties to even (IEEE 754-2019, 4.3.1); the ceiling is exact (IEEE 754-2019, 5.9).
 unfoldable pub sideOf : ℕ → ℕ
 sideOf n = max 2 (toUnsigned 64 (ceilOf (mul binary64 (squareRoot binary64 (div binary64 (whole n) (whole 6))) sideFactor)))
 
 abbrev pub cellCount : ℕ → ℕ
 cellCount g = 6 * (g * g)
 
--- "(fused(u/d, 0.5, 0.5))·g", where u lies across a face of g cells, counted in cells.
+-- "(fused(u/d, 0.5, 0.5))·g", where u lies across a face of g cells, counted in cells. Quotient, fused operation and product are each rounded once, to nearest, ties to even (IEEE 754-2019, 4.3.1).
 unfoldable pub acrossCells : ℕ → Float → Float → Float
 acrossCells g u d = mul binary64 (fusedMultiplyAdd binary64 (div binary64 u d) half half) (whole g)
 
@@ -34,7 +34,7 @@ unfoldable pub near : ℕ → ℤ → ℕ → Bool
 near width (pos k) c = leb k (c + width) && leb c (k + width)
 near width (negsuc k) c = leb (suc k + c) width
 
--- "A vertex is placed on each face with d > 0: (fused(u/d, 0.5, 0.5))·g converted, likewise w, then its 3 by 3 surroundings inside the face."
+-- "A vertex is placed on each face with d > 0: (fused(u/d, 0.5, 0.5))·g converted, likewise w, then its 3 by 3 surroundings inside the face." The conversion is toward zero (IEEE 754-2019, 5.8).
 -- "Cell: face·g·g + ci·g + cj."
 unfoldable pub placedIn : ℕ → ℕ → Vector3 → Bool
 placedIn g cell v =

@@ -14,7 +14,7 @@ use Rattle.grid_query.specs.declared.Nearest.{Nearest}
 use Rattle.grid_query.specs.declared.Nearest.the-variants.{Refused, Found}
 use Rattle.grid_query.specs.Cell.{cellOfQuery, candidates, candidateRows, cellRows}
 
--- Direction minus vertex, each difference squared once, summed from the left.
+-- Direction minus vertex, each difference squared once, summed from the left: three differences, three products and two sums, each rounded once, to nearest, ties to even (IEEE 754-2019, 4.3.1).
 unfoldable pub squaredDistance : List Float → Vector3 → ℕ → Float
 squaredDistance positions direction v = squaredLength (vectorDifference direction (positionOf positions v))
 

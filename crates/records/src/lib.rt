@@ -2,6 +2,14 @@
 // A record is read from the left with a cursor. The first word that is malformed, or is not what is expected, makes the cursor bad, and a bad
 // cursor stays where it is.
 ghost use Prim.Native.Nat.{_≤_};
+ghost use mathlib.Core.Path.{_≡_};
+ghost use mathlib.Core.Bool.{true};
+ghost use mathlib.Core.List.{map};
+ghost use lib.ListN.{length};
+ghost use lib.Ieee.{binary64, ofBits};
+ghost use Rattle.records.specs.Words.{cursorAt, goodWord, badWord, digitValue, digitsAt, spellsNan, tokenAt, lineGoesOn, nextWord, wordAtMost, word32, lengthOf, onlyIf, expected, lineEnd};
+ghost use Rattle.records.specs.Lists.{pattern, expectedEach, expectedList, ListRead, allNumbers, allDoubles};
+ghost use Rattle.records.specs.Hash.{hashedBytes, bytesOf, hashOf};
 
 pub struct Cursor {
     pub at: usize,
@@ -30,12 +38,16 @@ pub struct Length {
 }
 
 impl Cursor {
-    pub fn new(at: usize) -> Self {
+    pub fn new(at: usize) -> Self
+        ensures { λ r. ⌜ r ≡ cursorAt at true ⌝ }
+    {
         Cursor { at, good: true }
     }
 
     // Bad from now on, unless a condition holds.
-    pub fn only_if(self, holds: bool) -> Self {
+    pub fn only_if(self, holds: bool) -> Self
+        ensures { λ r. ⌜ r ≡ onlyIf self holds ⌝ }
+    {
         Cursor {
             at: self.at,
             good: self.good & holds,
@@ -44,7 +56,30 @@ impl Cursor {
 }
 
 impl Word {
-    pub fn cursor(self) -> Cursor {
+    fn good(value: u64, at: usize) -> Self
+        ensures { λ r. ⌜ r ≡ goodWord value at ⌝ }
+    {
+        Word {
+            value,
+            at,
+            good: true,
+        }
+    }
+
+    // A bad word has the number 0.
+    fn bad(at: usize) -> Self
+        ensures { λ r. ⌜ r ≡ badWord at ⌝ }
+    {
+        Word {
+            value: 0,
+            at,
+            good: false,
+        }
+    }
+
+    pub fn cursor(self) -> Cursor
+        ensures { λ r. ⌜ r ≡ cursorAt (self .at) (self .good) ⌝ }
+    {
         Cursor {
             at: self.at,
             good: self.good,
@@ -53,7 +88,9 @@ impl Word {
 }
 
 impl Word32 {
-    pub fn cursor(self) -> Cursor {
+    pub fn cursor(self) -> Cursor
+        ensures { λ r. ⌜ r ≡ cursorAt (self .at) (self .good) ⌝ }
+    {
         Cursor {
             at: self.at,
             good: self.good,
@@ -62,7 +99,9 @@ impl Word32 {
 }
 
 impl Length {
-    pub fn cursor(self) -> Cursor {
+    pub fn cursor(self) -> Cursor
+        ensures { λ r. ⌜ r ≡ cursorAt (self .at) (self .good) ⌝ }
+    {
         Cursor {
             at: self.at,
             good: self.good,
@@ -74,7 +113,9 @@ impl Length {
 const NAN: u64 = 0x7ff8_0000_0000_0000;
 
 // 16 for a byte that is no digit.
-fn digit(byte: u8) -> u8 {
+fn digit(byte: u8) -> u8
+    ensures { λ r. ⌜ r ≡ digitValue byte ⌝ }
+{
     if byte < b'0' {
         return 16;
     }
@@ -90,12 +131,16 @@ fn digit(byte: u8) -> u8 {
     16
 }
 
-fn widen(byte: u8) -> u64 {
+fn widen(byte: u8) -> u64
+    ensures { λ r. ⌜ r ≡ byte ⌝ }
+{
     byte as u64
 }
 
 // The digits from a place on.
-fn digits(text: &[u8], start: usize) -> Word {
+fn digits(text: &[u8], start: usize) -> Word
+    ensures { λ r. ⌜ r ≡ digitsAt (now (text .entry)) start ⌝ }
+{
     let mut value: u64 = 0;
     let mut end = start;
     while end < text.len() {
@@ -103,74 +148,119 @@ fn digits(text: &[u8], start: usize) -> Word {
         if next > 15 {
             break;
         }
-        value = (value << 4) | widen(next);
+        if end - start >= 16 {
+            return Word::bad(start);
+        }
+        value = value * 16 + widen(next);
         end += 1;
     }
     if end <= start {
-        return Word {
-            value: 0,
-            at: start,
-            good: false,
-        };
+        return Word::bad(start);
     }
-    Word {
-        value,
-        at: end,
-        good: end - start <= 16,
+    Word::good(value, end)
+}
+
+// Whether `nan` stands at a place.
+fn spells_nan(text: &[u8], start: usize) -> bool
+    ensures { λ r. ⌜ r ≡ spellsNan (now (text .entry)) start ⌝ }
+{
+    if start >= text.len() {
+        return false;
     }
+    if text.len() - start < 3 {
+        return false;
+    }
+    (text[start] == b'n') & ((text[start + 1] == b'a') & (text[start + 2] == b'n'))
 }
 
 // Digits, or `nan`.
-fn token(text: &[u8], start: usize) -> Word {
-    if start < text.len() {
-        if text.len() - start >= 3 {
-            if (text[start] == b'n') & (text[start + 1] == b'a') & (text[start + 2] == b'n') {
-                return Word {
-                    value: NAN,
-                    at: start + 3,
-                    good: true,
-                };
-            }
-        }
+fn token(text: &[u8], start: usize) -> Word
+    ensures { λ r. ⌜ r ≡ tokenAt (now (text .entry)) start ⌝ }
+{
+    if spells_nan(text, start) {
+        return Word::good(NAN, start + 3);
     }
     digits(text, start)
 }
 
+// Whether a line has a byte at a place.
+fn line_goes_on(text: &[u8], at: usize) -> bool
+    ensures { λ r. ⌜ r ≡ lineGoesOn (now (text .entry)) at ⌝ }
+{
+    if at < text.len() {
+        return text[at] != b'\n';
+    }
+    false
+}
+
 // The next word, and the cursor behind it and behind the space that follows it, or at the line's end.
-pub fn take(text: &[u8], cursor: Cursor) -> Word {
+pub fn take(text: &[u8], cursor: Cursor) -> Word
+    ensures { λ r. ⌜ r ≡ nextWord (now (text .entry)) cursor ⌝ }
+{
     let start = cursor.at;
     if !cursor.good {
-        return Word {
-            value: 0,
-            at: start,
-            good: false,
-        };
+        return Word::bad(start);
     }
     let word = token(text, start);
     let end = word.at;
-    if end < text.len() {
-        if text[end] == b' ' {
-            return Word {
-                value: word.value,
-                at: end + 1,
-                good: word.good,
-            };
-        }
-        return Word {
-            value: word.value,
-            at: end,
-            good: word.good & (text[end] == b'\n'),
-        };
+    if !word.good {
+        return Word::bad(start);
     }
-    Word {
-        value: word.value,
-        at: end,
-        good: false,
+    if end >= text.len() {
+        return Word::bad(start);
+    }
+    if text[end] == b'\n' {
+        return Word::good(word.value, end);
+    }
+    if text[end] != b' ' {
+        return Word::bad(start);
+    }
+    if line_goes_on(text, end + 1) {
+        return Word::good(word.value, end + 1);
+    }
+    Word::bad(start)
+}
+
+// The next word, bad where its number is greater than `most`.
+fn take_at_most(text: &[u8], cursor: Cursor, most: u64) -> Word
+    ensures { λ r. ⌜ r ≡ wordAtMost most (now (text .entry)) cursor ⌝ }
+{
+    let word = take(text, cursor);
+    if word.value <= most {
+        return word;
+    }
+    Word::bad(word.at)
+}
+
+pub fn take_u32(text: &[u8], cursor: Cursor) -> Word32
+    ensures { λ r. ⌜ r ≡ word32 (wordAtMost 0xffffffff (now (text .entry)) cursor) ⌝ }
+{
+    let word = take_at_most(text, cursor, 0xffff_ffff);
+    let value = word.value as u32;
+    Word32 {
+        value,
+        at: word.at,
+        good: word.good,
+    }
+}
+
+// The next word is a number of places, of which there are at most so many.
+pub fn take_length(text: &[u8], cursor: Cursor, most: usize) -> Length
+    ensures { λ r. ⌜ r ≡ lengthOf (wordAtMost most (now (text .entry)) cursor) ⌝ }
+    ensures { λ r. ⌜ r .places ≤ most ⌝ }
+{
+    let word = take_at_most(text, cursor, most as u64);
+    Length {
+        places: word.value as usize,
+        at: word.at,
+        good: word.good,
     }
 }
 
 // The next word is this number.
-pub fn expect(text: &[u8], cursor: Cursor, value: u64) -> Cursor {
+pub fn expect(text: &[u8], cursor: Cursor, value: u64) -> Cursor
+    ensures { λ r. ⌜ r ≡ expected (now (text .entry)) cursor value ⌝ }
+{
     let word = take(text, cursor);
     Cursor {
         at: word.at,
@@ -178,32 +268,16 @@ pub fn expect(text: &[u8], cursor: Cursor, value: u64) -> Cursor {
     }
 }
 
-pub fn expect_u32(text: &[u8], cursor: Cursor, value: u32) -> Cursor {
+pub fn expect_u32(text: &[u8], cursor: Cursor, value: u32) -> Cursor
+    ensures { λ r. ⌜ r ≡ expected (now (text .entry)) cursor value ⌝ }
+{
     expect(text, cursor, value as u64)
 }
 
-// The next word is a number of places, of which there are at most so many.
-pub fn take_length(text: &[u8], cursor: Cursor, most: usize) -> Length
-    ensures { λ r. ⌜ r .places ≤ most ⌝ }
-{
-    let word = take(text, cursor);
-    let value = word.value as usize;
-    if value <= most {
-        return Length {
-            places: value,
-            at: word.at,
-            good: word.good,
-        };
-    }
-    Length {
-        places: 0,
-        at: word.at,
-        good: false,
-    }
-}
-
 // The double of a bit pattern.
-pub fn double(bits: u64) -> f64 {
+pub fn double(bits: u64) -> f64
+    ensures { λ r. ⌜ r ≡ ofBits binary64 bits ⌝ }
+{
     if bits % 0x8000_0000_0000_0000 > 0x7ff0_0000_0000_0000 {
         return 0.0 / 0.0;
     }
@@ -211,56 +285,33 @@ pub fn double(bits: u64) -> f64 {
 }
 
 // The bit pattern of a double.
-pub fn bits(x: f64) -> u64 {
+pub fn bits(x: f64) -> u64
+    ensures { λ r. ⌜ r ≡ pattern x ⌝ }
+{
     if x != x {
         return NAN;
     }
     f64::to_bits(x)
 }
 
-pub fn expect_f64(text: &[u8], cursor: Cursor, x: f64) -> Cursor {
+pub fn expect_f64(text: &[u8], cursor: Cursor, x: f64) -> Cursor
+    ensures { λ r. ⌜ r ≡ expected (now (text .entry)) cursor (pattern x) ⌝ }
+{
     expect(text, cursor, bits(x))
 }
 
 // ---- lists, a word for each element
 
-fn fits_u32(value: u64) -> bool {
-    value <= 0xffff_ffff
-}
+// A number that does not fit an element is bad.
 
-fn narrow_u32(value: u64) -> u32 {
-    if value <= 0xffff_ffff {
-        return value as u32;
-    }
-    0
-}
-
-fn fits_u16(value: u64) -> bool {
-    value <= 0xffff
-}
-
-fn narrow_u16(value: u64) -> u16 {
-    if value <= 0xffff {
-        return value as u16;
-    }
-    0
-}
-
-pub fn take_u32(text: &[u8], cursor: Cursor) -> Word32 {
-    let word = take(text, cursor);
-    Word32 {
-        value: narrow_u32(word.value),
-        at: word.at,
-        good: word.good & fits_u32(word.value),
-    }
-}
-
-pub fn read_f64s(text: &[u8], cursor: Cursor, list: &mut [f64]) -> Cursor {
+pub fn read_f64s(text: &[u8], cursor: Cursor, list: &mut [f64]) -> Cursor
+    ensures { λ r. ⌜ ListRead (ofBits binary64) 0xffffffffffffffff (now (text .entry)) cursor (length (now (list .entry))) r (now (list .exit)) ⌝ }
+{
     let mut at = cursor.at;
     let mut good = cursor.good;
     let mut i = 0;
     while i < list.len() {
-        let word = take(text, Cursor { at, good });
+        let word = take_at_most(text, Cursor { at, good }, 0xffff_ffff_ffff_ffff);
         list[i] = double(word.value);
         at = word.at;
         good = word.good;
@@ -269,35 +320,41 @@ pub fn read_f64s(text: &[u8], cursor: Cursor, list: &mut [f64]) -> Cursor {
     Cursor { at, good }
 }
 
-pub fn read_u32s(text: &[u8], cursor: Cursor, list: &mut [u32]) -> Cursor {
+pub fn read_u32s(text: &[u8], cursor: Cursor, list: &mut [u32]) -> Cursor
+    ensures { λ r. ⌜ ListRead (λ n. n) 0xffffffff (now (text .entry)) cursor (length (now (list .entry))) r (now (list .exit)) ⌝ }
+{
     let mut at = cursor.at;
     let mut good = cursor.good;
     let mut i = 0;
     while i < list.len() {
-        let word = take(text, Cursor { at, good });
-        list[i] = narrow_u32(word.value);
+        let word = take_at_most(text, Cursor { at, good }, 0xffff_ffff);
+        list[i] = word.value as u32;
         at = word.at;
-        good = word.good & fits_u32(word.value);
+        good = word.good;
         i += 1;
     }
     Cursor { at, good }
 }
 
-pub fn read_u16s(text: &[u8], cursor: Cursor, list: &mut [u16]) -> Cursor {
+pub fn read_u16s(text: &[u8], cursor: Cursor, list: &mut [u16]) -> Cursor
+    ensures { λ r. ⌜ ListRead (λ n. n) 0xffff (now (text .entry)) cursor (length (now (list .entry))) r (now (list .exit)) ⌝ }
+{
     let mut at = cursor.at;
     let mut good = cursor.good;
     let mut i = 0;
     while i < list.len() {
-        let word = take(text, Cursor { at, good });
-        list[i] = narrow_u16(word.value);
+        let word = take_at_most(text, Cursor { at, good }, 0xffff);
+        list[i] = word.value as u16;
         at = word.at;
-        good = word.good & fits_u16(word.value);
+        good = word.good;
         i += 1;
     }
     Cursor { at, good }
 }
 
-fn expect_each_f64(text: &[u8], cursor: Cursor, list: &[f64]) -> Cursor {
+fn expect_each_f64(text: &[u8], cursor: Cursor, list: &[f64]) -> Cursor
+    ensures { λ r. ⌜ r ≡ expectedEach (now (text .entry)) cursor (map pattern (now (list .entry))) ⌝ }
+{
     let mut at = cursor.at;
     let mut good = cursor.good;
     let mut i = 0;
@@ -310,11 +367,15 @@ fn expect_each_f64(text: &[u8], cursor: Cursor, list: &[f64]) -> Cursor {
     Cursor { at, good }
 }
 
-fn widen_u32(x: u32) -> u64 {
+fn widen_u32(x: u32) -> u64
+    ensures { λ r. ⌜ r ≡ x ⌝ }
+{
     x as u64
 }
 
-fn expect_each_u32(text: &[u8], cursor: Cursor, list: &[u32]) -> Cursor {
+fn expect_each_u32(text: &[u8], cursor: Cursor, list: &[u32]) -> Cursor
+    ensures { λ r. ⌜ r ≡ expectedEach (now (text .entry)) cursor (now (list .entry)) ⌝ }
+{
     let mut at = cursor.at;
     let mut good = cursor.good;
     let mut i = 0;
@@ -327,11 +388,15 @@ fn expect_each_u32(text: &[u8], cursor: Cursor, list: &[u32]) -> Cursor {
     Cursor { at, good }
 }
 
-fn widen_u16(x: u16) -> u64 {
+fn widen_u16(x: u16) -> u64
+    ensures { λ r. ⌜ r ≡ x ⌝ }
+{
     x as u64
 }
 
-fn expect_each_u16(text: &[u8], cursor: Cursor, list: &[u16]) -> Cursor {
+fn expect_each_u16(text: &[u8], cursor: Cursor, list: &[u16]) -> Cursor
+    ensures { λ r. ⌜ r ≡ expectedEach (now (text .entry)) cursor (now (list .entry)) ⌝ }
+{
     let mut at = cursor.at;
     let mut good = cursor.good;
     let mut i = 0;
@@ -348,7 +413,7 @@ fn expect_each_u16(text: &[u8], cursor: Cursor, list: &[u16]) -> Cursor {
 
 // The place of the line feed that ends the line from a place on; the text's length where there is none.
 pub fn line_end(text: &[u8], start: usize) -> usize
-    ensures { λ r. ⌜ start ≤ r ⌝ }
+    ensures { λ r. ⌜ r ≡ lineEnd (now (text .entry)) start ⌝ }
 {
     let mut end = start;
     while end < text.len() {
@@ -364,7 +429,9 @@ pub fn line_end(text: &[u8], start: usize) -> usize
 
 const EMPTY_HASH: u64 = 0xcbf2_9ce4_8422_2325;
 
-fn hash_bytes(hash: u64, value: u64, count: u32) -> u64 {
+fn hash_bytes(hash: u64, value: u64, count: u32) -> u64
+    ensures { λ r. ⌜ r ≡ hashedBytes hash (bytesOf count value) ⌝ }
+{
     let mut now = hash;
     let mut rest = value;
     let mut left = count;
@@ -377,7 +444,9 @@ fn hash_bytes(hash: u64, value: u64, count: u32) -> u64 {
     now
 }
 
-fn hash_f64s(list: &[f64]) -> u64 {
+fn hash_f64s(list: &[f64]) -> u64
+    ensures { λ r. ⌜ r ≡ hashOf 8 (map pattern (now (list .entry))) ⌝ }
+{
     let mut hash = EMPTY_HASH;
     let mut i = 0;
     while i < list.len() {
@@ -387,7 +456,9 @@ fn hash_f64s(list: &[f64]) -> u64 {
     hash
 }
 
-fn hash_u32s(list: &[u32]) -> u64 {
+fn hash_u32s(list: &[u32]) -> u64
+    ensures { λ r. ⌜ r ≡ hashOf 4 (now (list .entry)) ⌝ }
+{
     let mut hash = EMPTY_HASH;
     let mut i = 0;
     while i < list.len() {
@@ -397,7 +468,9 @@ fn hash_u32s(list: &[u32]) -> u64 {
     hash
 }
 
-fn hash_u16s(list: &[u16]) -> u64 {
+fn hash_u16s(list: &[u16]) -> u64
+    ensures { λ r. ⌜ r ≡ hashOf 2 (now (list .entry)) ⌝ }
+{
     let mut hash = EMPTY_HASH;
     let mut i = 0;
     while i < list.len() {
@@ -409,21 +482,27 @@ fn hash_u16s(list: &[u16]) -> u64 {
 
 // ---- a list, or its hash in its place
 
-pub fn expect_f64s(text: &[u8], cursor: Cursor, list: &[f64], hashed: bool) -> Cursor {
+pub fn expect_f64s(text: &[u8], cursor: Cursor, list: &[f64], hashed: bool) -> Cursor
+    ensures { λ r. ⌜ r ≡ expectedList hashed 8 (now (text .entry)) cursor (map pattern (now (list .entry))) ⌝ }
+{
     if hashed {
         return expect(text, cursor, hash_f64s(list));
     }
     expect_each_f64(text, cursor, list)
 }
 
-pub fn expect_u32s(text: &[u8], cursor: Cursor, list: &[u32], hashed: bool) -> Cursor {
+pub fn expect_u32s(text: &[u8], cursor: Cursor, list: &[u32], hashed: bool) -> Cursor
+    ensures { λ r. ⌜ r ≡ expectedList hashed 4 (now (text .entry)) cursor (now (list .entry)) ⌝ }
+{
     if hashed {
         return expect(text, cursor, hash_u32s(list));
     }
     expect_each_u32(text, cursor, list)
 }
 
-pub fn expect_u16s(text: &[u8], cursor: Cursor, list: &[u16], hashed: bool) -> Cursor {
+pub fn expect_u16s(text: &[u8], cursor: Cursor, list: &[u16], hashed: bool) -> Cursor
+    ensures { λ r. ⌜ r ≡ expectedList hashed 2 (now (text .entry)) cursor (now (list .entry)) ⌝ }
+{
     if hashed {
         return expect(text, cursor, hash_u16s(list));
     }
@@ -432,7 +511,9 @@ pub fn expect_u16s(text: &[u8], cursor: Cursor, list: &[u16], hashed: bool) -> C
 
 // ---- whether every place holds one value
 
-pub fn all_f64s(list: &[f64], value: f64) -> bool {
+pub fn all_f64s(list: &[f64], value: f64) -> bool
+    ensures { λ r. ⌜ r ≡ allDoubles value (now (list .entry)) ⌝ }
+{
     let mut i = 0;
     while i < list.len() {
         if list[i] != value {
@@ -443,7 +524,9 @@ pub fn all_f64s(list: &[f64], value: f64) -> bool {
     true
 }
 
-pub fn all_u32s(list: &[u32], value: u32) -> bool {
+pub fn all_u32s(list: &[u32], value: u32) -> bool
+    ensures { λ r. ⌜ r ≡ allNumbers value (now (list .entry)) ⌝ }
+{
     let mut i = 0;
     while i < list.len() {
         if list[i] != value {
@@ -454,7 +537,9 @@ pub fn all_u32s(list: &[u32], value: u32) -> bool {
     true
 }
 
-pub fn all_u16s(list: &[u16], value: u16) -> bool {
+pub fn all_u16s(list: &[u16], value: u16) -> bool
+    ensures { λ r. ⌜ r ≡ allNumbers value (now (list .entry)) ⌝ }
+{
     let mut i = 0;
     while i < list.len() {
         if list[i] != value {
@@ -465,7 +550,9 @@ pub fn all_u16s(list: &[u16], value: u16) -> bool {
     true
 }
 
-pub fn all_u8s(list: &[u8], value: u8) -> bool {
+pub fn all_u8s(list: &[u8], value: u8) -> bool
+    ensures { λ r. ⌜ r ≡ allNumbers value (now (list .entry)) ⌝ }
+{
     let mut i = 0;
     while i < list.len() {
         if list[i] != value {

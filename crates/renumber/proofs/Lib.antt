@@ -5,3 +5,4 @@ pub mod Lists
 pub mod Accepted
 pub mod RenumberedMesh
 pub mod Calls
+pub mod RenumberedBelow

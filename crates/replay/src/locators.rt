@@ -54,7 +54,7 @@ fn replay_records(
     let answered = records::expect_u32(text, cursor, answer.refusal);
     let first = records::expect_u32(text, answered, side);
     let mut end = records::line_end(text, 0);
-    let mut tally = Tally::none().counted(first.good & (first.at == end));
+    let mut tally = Tally::none().counted(first, end);
     while end < text.len() {
         let start = end + 1;
         if start == text.len() {
@@ -73,7 +73,7 @@ fn replay_records(
             triangle_starts,
             triples,
         );
-        tally = tally.counted(last.good & (last.at == end));
+        tally = tally.counted(last, end);
     }
     tally
 }
@@ -230,9 +230,19 @@ fn with_lattice(text: &[u8]) -> Tally {
     cut_lattice(text, &mut positions, &mut starts, &mut entries, &mut ids)
 }
 
-pub fn replay(name: &[u8]) {
+fn replay_file(name: &[u8]) -> Tally {
     let mut text = [0u8; 524288];
     let size = report::read_file(name, &mut text);
-    let tally = with_lattice(&text[..size]);
-    report::print(name, tally);
+    with_lattice(&text[..size])
+}
+
+pub fn replay(name: &[u8]) {
+    let tally = replay_file(name);
+    report::print_differences(name, tally);
+}
+
+// A file whose records are all wrong on purpose.
+pub fn replay_wrong(name: &[u8]) {
+    let tally = replay_file(name);
+    report::print_noticed(name, tally);
 }

@@ -1,5 +1,6 @@
-// Square root on binary64. The digits of the root come at once, from a candidate that is tested, or
-// one by one.
+// Square root on binary64: squareRoot (IEEE 754-2019, 5.4.1), rounded to nearest, ties to even (IEEE
+// 754-2019, 4.3.1). The digits of the root come at once, from a candidate that is tested, or one by
+// one.
 ghost use mathlib.Core.Path.{_≡_};
 ghost use Prim.Native.Nat.{_+_, _*_, _^_, _<_, _≤_};
 ghost use lib.Dec.{T};
@@ -87,7 +88,8 @@ fn newton_step(word: u64, z: u64) -> u64
 
 // 2^31 / sqrt(x) for x = word / 2^30 from 1 to 4, to about 29 bits. For x up to 2, 1 / sqrt(x) is
 // first taken as 1.5796 - 0.7305 x + 0.1477 x^2, off by a third of a percent at most; for x above,
-// as that of x / 2, over sqrt(2). Each of the two steps doubles the digits that are right.
+// as that of x / 2, over sqrt(2). Each of the two steps doubles the digits that are right. Another
+// estimate would change no result: where it is too far off, the candidate fails its test.
 fn reciprocal_root(word: u64) -> u64
     requires { ⌜ word < 2 ^ 32 ⌝ }
     ensures { λ r. ⌜ r < 2 ^ 32 ⌝ }
@@ -160,7 +162,7 @@ fn root_digits(radicand: u64) -> RootAndRemainder
     }
 }
 
-// The root of radicand * 4^half / 2^1138, rounded. In units of 4^-1074, as `scaledRoot` has it, the
+// The root of radicand * 4^half / 2^1138, rounded (IEEE 754-2019, 4.3.1). In units of 4^-1074, as `scaledRoot` has it, the
 // value is radicand * 2^(2 half + 1010). The 53 digits of a significand and one more decide, with a
 // sticky bit for those further down: they are all 0 exactly where no remainder is left. The 54
 // digits are brought to the top of a word.
@@ -186,8 +188,8 @@ fn root_of_positive(x: f64) -> f64
     root_of_word(n.significand >> odd, n.exponent / 2 + odd)
 }
 
-// The square root, rounded to nearest, ties to even. A zero is its own root, and so are +∞ and NaN;
-// a number below zero has none.
+// The square root, rounded to nearest, ties to even (IEEE 754-2019, 4.3.1). A zero is its own root,
+// and so are +∞ and NaN; a number below zero has none.
 pub fn sqrt(x: f64) -> f64
     ensures { λ r. ⌜ r ≡ squareRoot binary64 x ⌝ }
 {

@@ -1,5 +1,5 @@
 // A double taken apart into sign, significand and exponent, and the one function that rounds an exact
-// value, to nearest, ties to even, and packs it again.
+// value, to nearest, ties to even (IEEE 754-2019, 4.3.1), and packs it again.
 ghost use mathlib.Core.Path.{_≡_};
 ghost use mathlib.Core.Bool.{cond};
 ghost use Prim.Native.Nat.{_+_, _*_, _%_, _^_, _<_, _≤_};
@@ -68,8 +68,9 @@ pub fn normalise_significand(significand: u64, exponent: u64) -> NormalisedSigni
     }
 }
 
-// The whole number nearest to word / 2^11, a tie to the even one: what is added carries where the
-// 11 dropped bits are above a half, and at a half where the last bit kept is 1.
+// The whole number nearest to word / 2^11, a tie to the even one (IEEE 754-2019, 4.3.1): what is
+// added carries where the 11 dropped bits are above a half, and at a half where the last bit kept
+// is 1.
 fn round_significand(word: u64) -> u64
     ensures { λ r. ⌜ r ≡ closest word 2048 ⌝ }
 {
@@ -93,11 +94,14 @@ fn pack(negative: bool, magnitude: u64) -> f64
 // The exponent of round_and_pack_word from which the value is normal: 2340 - 63 - 1022.
 const LEAST_NORMAL: u64 = 1255;
 
-// And the one from which it overflows: 2340 - 63 + 1024.
+// And the one from which it overflows: 2340 - 63 + 1024. A value below it whose significand rounds
+// up to 2^53 at the greatest exponent is carried into the pattern of an infinity (IEEE 754-2019,
+// 4.3.1).
 const LEAST_OVERFLOW: u64 = 3301;
 
-// significand * 2^exponent / 2^2340 rounded, for a significand with its top bit set. The leading bit
-// of the rounded significand, or a carry out of it, adds to the exponent's field.
+// significand * 2^exponent / 2^2340 rounded (IEEE 754-2019, 4.3.1), for a significand with its top
+// bit set. The leading bit of the rounded significand, or a carry out of it, adds to the exponent's
+// field.
 pub fn round_and_pack_word(negative: bool, significand: u64, exponent: u64) -> f64
     requires { ⌜ 2 ^ 63 ≤ significand ⌝ }
     ensures { λ r. ⌜ r ≡ round binary64 negative (significand * 2 ^ exponent) (2 ^ highWordScale) ⌝ }
@@ -117,8 +121,8 @@ pub fn round_and_pack_word(negative: bool, significand: u64, exponent: u64) -> f
     }
 }
 
-// significand * 2^exponent / 2^2276 rounded, for a significand of two words above 0. It is brought
-// to its top bit first.
+// significand * 2^exponent / 2^2276 rounded (IEEE 754-2019, 4.3.1), for a significand of two words
+// above 0. It is brought to its top bit first.
 pub fn round_and_pack(negative: bool, significand: TwoWords, exponent: u64) -> f64
     requires { ⌜ (0 < value significand) × (exponent < 2 ^ 32) ⌝ }
     ensures { λ r. ⌜ r ≡ round binary64 negative (value significand * 2 ^ exponent) (2 ^ productScale) ⌝ }

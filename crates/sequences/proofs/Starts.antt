@@ -1,7 +1,7 @@
 -- Laws of lists one behind another and of their starts. Assumes nothing.
 -- From lists to starts and entries and back: `concatenate-part`. From starts and entries to lists and back: `rows-starts`, `rows-entries`.
 -- To show that a flat list is the lists one behind another: `concatenate-unique`, for lists of one width `concatenate-even-unique`.
--- To read an entry: `concatenate-at`, `concatenate-even-at`, `part-at`. A member: `concatenate-member`, `member-concatenate`.
+-- To read an entry: `concatenate-at`, `concatenate-even-at`, `part-at`. A member: `concatenate-member`, `member-concatenate`, `flatten-member`.
 use Prim.Native.Nat.{ℕ, zero, suc, _+_, _-_, _*_, _≤_, _<_}
 use native.Mathlib.Nat.{not-suc-le-zero}
 use native.Mathlib.Omega.{arith}
@@ -158,6 +158,11 @@ module _ {A : Type 0} where
 
   pub flatten-concatenate : (ls : List (List A)) → flatten ls ≡ concatenate (length ls) (λ i. getD ls i [])
   flatten-concatenate ls = ap flatten (sym (tabulate-elements ls [])) ∙ sym (concatenate-flatten (length ls) (λ i. getD ls i []))
+
+  pub flatten-member : (ls : List (List A)) (a : A) → List·Memᴰ a (flatten ls) → (l : List A) × List·Memᴰ l ls × List·Memᴰ a l
+  flatten-member ls a m =
+      let r = concatenate-member (length ls) (λ i. getD ls i []) a (subst (List·Memᴰ a) (flatten-concatenate ls) m) in
+      (getD ls (r .0) [], getD-member ls (r .0) [] (r .1), r .2)
 
   -- lists of one width, flattened and cut again: triples are written and read so
   pub flatten-even-length : (w : ℕ) (ls : List (List A)) → ((x : List A) → List·Memᴰ x ls → length x ≡ w) → length (flatten ls) ≡ length ls * w

@@ -117,7 +117,8 @@ impl Vector3 {
     }
 }
 
-// A direction as a query takes it: row 9 first.
+// A direction that row 9 lets pass, or its refusal, for a caller that tests one alone. Queries test row 9 in its place among their own
+// checks, by `is_admissible`, and take a Vector3.
 pub enum Direction {
     Refused(Refusal),
     Accepted(Vector3),

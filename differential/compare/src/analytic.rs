@@ -1,6 +1,6 @@
 //! The analytic locator beside the Rust's, on all 80 lattices, and the choice of a face.
 
-use crate::check::{same, Check, Tally};
+use crate::check::{same, Check, Judge, Tally};
 use crate::directions::{row_9, rust_of, Directions};
 use crate::meshes::{Lattice, FREQUENCIES};
 use icotable_oracle as rust;
@@ -21,6 +21,14 @@ pub fn checks() -> Vec<Check> {
     ]
 }
 
+/// An expected refusal is that of a row's text; what is accepted is the Rust's.
+pub fn judge_of<T>(expected: &Result<T, u32>) -> Judge {
+    match expected {
+        Ok(_) => Judge::Rust,
+        Err(_) => Judge::Rows,
+    }
+}
+
 const BOTH: [bool; 2] = [false, true];
 
 /// All 64 cases.
@@ -38,7 +46,7 @@ fn every_choice(tally: &mut Tally) {
         let sum = usize::from(first) + 2 * usize::from(second) + 3 * usize::from(third);
         let line = rust::FACE_MAPPING[usize::from(i)][usize::from(j)][usize::from(k)];
         let table = line.get(sum).map(|&face| face as u32).ok_or(10);
-        tally.compare(ours == table, || {
+        tally.compare(judge_of(&table), ours == table, || {
             format!("{signs:?} {outside:?}: {ours:?}, FACE_MAPPING {table:?}")
         });
     }
@@ -86,7 +94,9 @@ fn flag_sums(tally: &mut Tally) {
         }
     }
     for (count, case) in reached.iter().zip(["3 by flags 1 and 2", "4", "5"]) {
-        tally.compare(*count > 0, || format!("no direction has the sum {case}"));
+        tally.compare(Judge::Inputs, *count > 0, || {
+            format!("no direction has the sum {case}")
+        });
     }
 }
 
@@ -134,7 +144,7 @@ fn directions(tally: &mut Tally, parity: usize) {
             let v = inputs.direction();
             let located = ours.locate(v).map_err(Refusal::number);
             let text = rust_answer(&oracle, &classifier, v);
-            tally.compare(same_answer(&located, &text), || {
+            tally.compare(judge_of(&text), same_answer(&located, &text), || {
                 format!("locate, frequency {frequency}, {v:?}: {located:?}, Rust {text:?}")
             });
             let nearest = ours.find_nearest_vertex(v).map_err(Refusal::number);
@@ -143,7 +153,7 @@ fn directions(tally: &mut Tally, parity: usize) {
                 Ok((_, w)) if [w.u, w.v, w.w].iter().any(|weight| weight.is_nan()) => continue,
                 Ok(_) => Ok(oracle.find_nearest_vertex(&rust_of(v)) as u32),
             };
-            tally.compare(nearest == text, || {
+            tally.compare(judge_of(&text), nearest == text, || {
                 format!("nearest, frequency {frequency}, {v:?}: {nearest:?}, Rust {text:?}")
             });
         }
@@ -156,7 +166,7 @@ fn refusals(tally: &mut Tally) {
         let lattice = AnalyticLattice { frequency, ids };
         let located = lattice.locate(v).err().map(Refusal::number);
         let nearest = lattice.find_nearest_vertex(v).err().map(Refusal::number);
-        tally.compare(located == number && nearest == number, || {
+        tally.compare(Judge::Rows, located == number && nearest == number, || {
             let length = ids.len();
             format!("frequency {frequency}, {length} ids, {v:?}: {located:?}, {nearest:?}, rows {number:?}")
         });

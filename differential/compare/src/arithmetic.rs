@@ -1,6 +1,6 @@
 //! Fused multiply-add and square root, beside Rust's own.
 
-use crate::check::{same, Check, Tally};
+use crate::check::{same, Check, Judge, Tally};
 use crate::operands::{Class, RADICANDS, TRIPLES};
 use std::hint::black_box;
 use std::io::{self, Write};
@@ -18,7 +18,7 @@ pub fn checks() -> Vec<Check> {
 fn mul_add(tally: &mut Tally, class: &Class<3>) {
     class.each(class.count, |[a, b, c]| {
         let (ours, rust) = (koshirga::mul_add(a, b, c), a.mul_add(b, c));
-        tally.compare(same(ours, rust), || {
+        tally.compare(Judge::Rust, same(ours, rust), || {
             let [a, b, c] = [a, b, c].map(f64::to_bits);
             format!("mul_add({a:#018x}, {b:#018x}, {c:#018x}): {ours:?}, Rust {rust:?}")
         });
@@ -28,7 +28,7 @@ fn mul_add(tally: &mut Tally, class: &Class<3>) {
 fn sqrt(tally: &mut Tally, class: &Class<1>) {
     class.each(class.count, |[x]| {
         let (ours, rust) = (koshirga::sqrt(x), x.sqrt());
-        tally.compare(same(ours, rust), || {
+        tally.compare(Judge::Rust, same(ours, rust), || {
             format!("sqrt({:#018x}): {ours:?}, Rust {rust:?}", x.to_bits())
         });
     });

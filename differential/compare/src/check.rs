@@ -27,12 +27,32 @@ impl Topic {
         Sum {
             topic: self.name,
             checks: 0,
-            count: 0,
+            judged: Judged::default(),
             differences: 0,
             time: Duration::ZERO,
         }
     }
 }
+
+/// What a result is held to. The sums are kept apart, so that what was compared with the Rust itself
+/// is one number.
+#[derive(Clone, Copy)]
+pub enum Judge {
+    /// What the Rust returned, or a table of its own.
+    Rust,
+    /// What the Rust doesn't return, worked out beside it: from its grid or order, or by document
+    /// 01's text.
+    Beside,
+    /// The text of the rows: refusals, and answers on damaged grids.
+    Rows,
+    /// Other results of the engine.
+    Engine,
+    /// Nothing of the engine's: that the inputs reach what a check is about.
+    Inputs,
+}
+
+/// How many comparisons each judge has had, in the order of [`Judge`].
+type Judged = [u64; 5];
 
 /// One function's comparison, on one class of inputs where there are several.
 pub struct Check {
@@ -51,16 +71,20 @@ impl Check {
 
 #[derive(Default)]
 pub struct Tally {
-    count: u64,
+    judged: Judged,
     differences: u64,
     described: Vec<String>,
 }
 
 impl Tally {
+    fn count(&self) -> u64 {
+        self.judged.iter().sum()
+    }
+
     /// Counts one comparison, and describes it where the sides differ.
     #[inline]
-    pub fn compare(&mut self, same: bool, describe: impl FnOnce() -> String) {
-        self.count += 1;
+    pub fn compare(&mut self, judge: Judge, same: bool, describe: impl FnOnce() -> String) {
+        self.judged[judge as usize] += 1;
         if !same {
             self.differences += 1;
             if self.described.len() < DESCRIBED {
@@ -84,7 +108,7 @@ impl Rows {
     /// A row that no input reached is a difference: then the inputs are too tame.
     pub fn all_reached(&self, tally: &mut Tally, rows: &[u32]) {
         for row in rows {
-            tally.compare(self.0.contains_key(row), || {
+            tally.compare(Judge::Inputs, self.0.contains_key(row), || {
                 format!("no input is refused by row {row}")
             });
         }
@@ -101,7 +125,7 @@ pub fn same(x: f64, y: f64) -> bool {
 pub struct Sum {
     topic: &'static str,
     checks: u64,
-    count: u64,
+    judged: Judged,
     pub differences: u64,
     time: Duration,
 }
@@ -109,24 +133,29 @@ pub struct Sum {
 impl Sum {
     fn add(&mut self, tally: &Tally, time: Duration) {
         self.checks += 1;
-        self.count += tally.count;
+        for (sum, more) in self.judged.iter_mut().zip(tally.judged) {
+            *sum += more;
+        }
         self.differences += tally.differences;
         self.time += time;
     }
 }
 
-/// The line of a summary: topic, checks, comparisons, differences and seconds.
+/// The line of a summary: topic, checks, comparisons, differences, seconds, and the comparisons by
+/// their judge.
 impl fmt::Display for Sum {
     fn fmt(&self, f: &mut fmt::Formatter) -> fmt::Result {
         let Sum {
             topic,
             checks,
-            count,
+            judged,
             differences,
             time,
         } = self;
+        let count: u64 = judged.iter().sum();
         let seconds = time.as_secs_f64();
-        write!(f, "{topic}\t{checks}\t{count}\t{differences}\t{seconds:.2}")
+        write!(f, "{topic}\t{checks}\t{count}\t{differences}\t{seconds:.2}")?;
+        judged.iter().try_for_each(|sum| write!(f, "\t{sum}"))
     }
 }
 
@@ -145,8 +174,8 @@ pub fn run(topics: &[&Topic]) -> Vec<Sum> {
             let start = Instant::now();
             let mut tally = Tally::default();
             (check.run)(&mut tally);
-            if tally.count == 0 {
-                tally.compare(false, || "nothing was compared".to_string());
+            if tally.count() == 0 {
+                tally.compare(Judge::Inputs, false, || "nothing was compared".to_string());
             }
             // Fails only where the receiver is gone, and then nobody wants the result.
             let _ = results.send((at, tally, start.elapsed()));
@@ -182,7 +211,7 @@ fn take<'a, T>(next: &AtomicUsize, jobs: &'a [T]) -> Option<(usize, &'a T)> {
 }
 
 fn print_line(topic: &str, check: &Check, tally: &Tally, time: Duration) {
-    let (count, differences, seconds) = (tally.count, tally.differences, time.as_secs_f64());
+    let (count, differences, seconds) = (tally.count(), tally.differences, time.as_secs_f64());
     println!(
         "{topic:<10}  {:<30}  {count:>11}  {differences:>11}  {seconds:>7.2}",
         check.name

@@ -1,7 +1,7 @@
 //! The grids of all 80 lattices and of random meshes beside the Rust's, and the builder's refusals
 //! beside the rows' text.
 
-use crate::check::{Check, Rows, Tally};
+use crate::check::{Check, Judge, Rows, Tally};
 use crate::directions::row_9;
 use crate::meshes::{Flat, Lattice, Lists, FREQUENCIES};
 use crate::patterns::Random;
@@ -82,7 +82,7 @@ fn compare(tally: &mut Tally, name: &str, lists: &Lists, surplus: [usize; 4]) {
     let mut ours = lent.clone();
     let answer = built(&lists.flat(), &mut ours);
     let same = answer == Ok(grid.side) && ours == with_grid(lent, &grid);
-    tally.compare(same, || {
+    tally.compare(Judge::Rust, same, || {
         format!("grid of {name}: {answer:?}, Rust's side {}", grid.side)
     });
 }
@@ -146,11 +146,14 @@ fn refusals(tally: &mut Tally) {
         let mut ours = lent.clone();
         let answer = built(&flat, &mut ours);
         rows.count(row);
-        let same = match (row, &grid) {
-            (None, Some(grid)) => answer == Ok(grid.side) && ours == with_grid(lent, grid),
-            _ => answer.err() == row && ours == lent,
+        let (judge, same) = match (row, &grid) {
+            (None, Some(grid)) => (
+                Judge::Rust,
+                answer == Ok(grid.side) && ours == with_grid(lent, grid),
+            ),
+            _ => (Judge::Rows, answer.err() == row && ours == lent),
         };
-        tally.compare(same, || {
+        tally.compare(judge, same, || {
             format!("grid of {flat:?} in {lengths:?} places: {answer:?}, row {row:?}")
         });
     }

@@ -1,6 +1,6 @@
 //! Total order, rank, floor, ceiling and conversion, beside Rust's own methods of doubles.
 
-use crate::check::{same, Check, Tally};
+use crate::check::{same, Check, Judge, Tally};
 use crate::patterns::Patterns;
 
 pub fn checks() -> Vec<Check> {
@@ -18,7 +18,7 @@ fn total_cmp(tally: &mut Tally) {
     Patterns::each_pair(1, |x, y| {
         let ours = koshirga::total_cmp(x, y);
         let rust = f64::from_bits(x).total_cmp(&f64::from_bits(y));
-        tally.compare(ours == rust, || {
+        tally.compare(Judge::Rust, ours == rust, || {
             format!("total_cmp({x:#018x}, {y:#018x}): {ours:?}, Rust {rust:?}")
         });
     });
@@ -38,7 +38,7 @@ fn rank_order(tally: &mut Tally) {
     Patterns::each_pair(2, |x, y| {
         let ours = koshirga::rank(f64::from_bits(x)).cmp(&koshirga::rank(f64::from_bits(y)));
         let rust = one_nan(x).total_cmp(&one_nan(y));
-        tally.compare(ours == rust, || {
+        tally.compare(Judge::Rust, ours == rust, || {
             format!("ranks of {x:#018x}, {y:#018x}: {ours:?}, Rust {rust:?}")
         });
     });
@@ -58,7 +58,7 @@ fn rank_place(tally: &mut Tally) {
     Patterns::each(3, |bits| {
         let x = f64::from_bits(bits);
         let (ours, place) = (koshirga::rank(x), place(x));
-        tally.compare(ours == place, || {
+        tally.compare(Judge::Beside, ours == place, || {
             format!("rank({bits:#018x}): {ours:#018x}, place {place:#018x}")
         });
     });
@@ -76,7 +76,7 @@ fn integral(tally: &mut Tally, seed: u64, name: &str, ours: fn(f64) -> f64, rust
     Patterns::each(seed, |bits| {
         let x = f64::from_bits(bits);
         let (ours, rust) = (ours(x), rust(x));
-        tally.compare(same(ours, rust), || {
+        tally.compare(Judge::Rust, same(ours, rust), || {
             format!("{name}({bits:#018x}): {ours:?}, Rust {rust:?}")
         });
     });
@@ -86,7 +86,7 @@ fn to_i64(tally: &mut Tally) {
     Patterns::each(6, |bits| {
         let x = f64::from_bits(bits);
         let (ours, rust) = (koshirga::to_i64(x), x as i64);
-        tally.compare(ours == rust, || {
+        tally.compare(Judge::Rust, ours == rust, || {
             format!("to_i64({bits:#018x}): {ours}, Rust {rust}")
         });
     });

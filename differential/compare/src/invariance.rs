@@ -1,7 +1,7 @@
 //! Demand 3's statement, executed: lists of renumbering calls, refused ones among them, on lattices
 //! of the oracle, with both grids built and queried by the engine.
 
-use crate::check::{Check, Tally};
+use crate::check::{Check, Judge, Tally};
 use crate::directions::{rust_of, Directions};
 use crate::meshes::{permutation, Flat, Lattice, Lists};
 use crate::patterns::Random;
@@ -242,13 +242,17 @@ fn one_list(tally: &mut Tally, random: &mut Random, lists: &Lists, form: usize, 
         }
     }
     let name = || format!("{length} calls on {count} vertices, {places} numbers");
-    tally.compare(state_moved(&before, &after, &p, form), || {
-        format!("mesh and data after {}", name())
-    });
+    tally.compare(
+        Judge::Engine,
+        state_moved(&before, &after, &p, form),
+        || format!("mesh and data after {}", name()),
+    );
     let (Ok(grid), Ok(grid_after)) = (Built::new(&before.mesh), Built::new(&after.mesh)) else {
-        return tally.compare(false, || format!("a grid was refused after {}", name()));
+        return tally.compare(Judge::Engine, false, || {
+            format!("a grid was refused after {}", name())
+        });
     };
-    tally.compare(grids_moved(&grid, &grid_after, &p), || {
+    tally.compare(Judge::Engine, grids_moved(&grid, &grid_after, &p), || {
         format!("grids after {}", name())
     });
     let cells = rust::FaceGrid::new(&lists.vertices, &lists.neighbors);
@@ -274,7 +278,7 @@ fn one_list(tally: &mut Tally, random: &mut Random, lists: &Lists, form: usize, 
             }
             _ => false,
         };
-        tally.compare(same, || {
+        tally.compare(Judge::Engine, same, || {
             format!("{v:?} after {}: {first:?}, {second:?}", name())
         });
     }

@@ -1,6 +1,6 @@
 //! The lattices of all 80 frequencies beside the Rust's, and the refusals of rows 1 and 8.
 
-use crate::check::{Check, Tally};
+use crate::check::{Check, Judge, Tally};
 use crate::meshes::{Flat, Lattice, FREQUENCIES};
 use koshirga::{MeshMut, Refusal};
 
@@ -73,9 +73,11 @@ fn lattices(tally: &mut Tally) {
             rust.mesh.entries[..needed[2]].copy_from_slice(&flat.entries);
             rust.ids[..needed[3]].copy_from_slice(&lattice.ids);
             let row = written(frequency as u32, &mut ours);
-            tally.compare(row.is_none() && same_bits(&ours, &rust), || {
-                format!("lattice of frequency {frequency}, surplus {surplus:?}: row {row:?}")
-            });
+            tally.compare(
+                Judge::Rust,
+                row.is_none() && same_bits(&ours, &rust),
+                || format!("lattice of frequency {frequency}, surplus {surplus:?}: row {row:?}"),
+            );
         }
     }
 }
@@ -86,7 +88,7 @@ fn refusals(tally: &mut Tally) {
         let mut ours = before(lengths);
         let row = written(frequency, &mut ours);
         let same = row == Some(expected) && same_bits(&ours, &before(lengths));
-        tally.compare(same, || {
+        tally.compare(Judge::Rows, same, || {
             format!("lattice of frequency {frequency} in {lengths:?} places: row {row:?}")
         });
     };

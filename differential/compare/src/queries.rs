@@ -1,8 +1,8 @@
 //! Grid queries beside the Rust's, on the oracle's grids of all 80 lattices; and damaged grids
 //! beside a reading of document 01's checks.
 
-use crate::analytic::same_weights;
-use crate::check::{same, Check, Rows, Tally};
+use crate::analytic::{judge_of, same_weights};
+use crate::check::{same, Check, Judge, Rows, Tally};
 use crate::directions::{row_9, rust_of, Directions};
 use crate::meshes::{Lattice, Lists, FREQUENCIES};
 use crate::patterns::Random;
@@ -112,38 +112,67 @@ pub fn rust_answers(slices: &Slices, grid: &rust::FaceGrid, v: Vector3) -> Answe
     }
 }
 
-fn same_nearest(x: &Result<Nearest, u32>, y: &Result<Nearest, u32>) -> bool {
-    match (x, y) {
-        (Ok(x), Ok(y)) => {
-            x.id == y.id && x.candidates == y.candidates && same(x.distance, y.distance)
-        }
-        (Err(number), Err(other)) => number == other,
-        _ => false,
-    }
-}
-
-fn same_located(x: &Result<Located, u32>, y: &Result<Located, u32>) -> bool {
-    match (x, y) {
-        (Ok(x), Ok(y)) => {
-            x.triple == y.triple && same_weights(x.weights, y.weights) && same(x.least, y.least)
-        }
-        (Err(number), Err(other)) => number == other,
-        _ => false,
-    }
-}
-
-fn compare(tally: &mut Tally, slices: &Slices, v: Vector3, other: Answers, name: &str) {
+/// What the engine answers.
+fn our_answers(slices: &Slices, v: Vector3) -> Answers {
     let grid = slices.as_grid();
-    let ours = grid.find_nearest_vertex(v).map_err(Refusal::number);
-    tally.compare(same_nearest(&ours, &other.nearest), || {
-        format!(
-            "nearest, {name}, {v:?}: {ours:?}, other {:?}",
-            other.nearest
-        )
+    Answers {
+        nearest: grid.find_nearest_vertex(v).map_err(Refusal::number),
+        located: grid.locate(v).map_err(Refusal::number),
+    }
+}
+
+/// Whether both are refused by one row, or both accepted and alike.
+fn same_result<T>(x: &Result<T, u32>, y: &Result<T, u32>, alike: impl Fn(&T, &T) -> bool) -> bool {
+    match (x, y) {
+        (Ok(x), Ok(y)) => alike(x, y),
+        (Err(number), Err(other)) => number == other,
+        _ => false,
+    }
+}
+
+/// Count and distance of a nearest query.
+fn same_measures(x: &Nearest, y: &Nearest) -> bool {
+    x.candidates == y.candidates && same(x.distance, y.distance)
+}
+
+fn same_triangle(x: &Located, y: &Located) -> bool {
+    x.triple == y.triple && same_weights(x.weights, y.weights)
+}
+
+/// Id, triple and weights are held to the Rust's; distance, count and least, which it does not
+/// return, to what is worked out beside it. A refusal is held to its row's text.
+fn compare_with_rust(tally: &mut Tally, ours: &Answers, rust: &Answers, name: impl Fn() -> String) {
+    let (nearest, located) = (&ours.nearest, &ours.located);
+    let same_id = same_result(nearest, &rust.nearest, |x, y| x.id == y.id);
+    let describe = || format!("nearest, {}: {nearest:?}, Rust {:?}", name(), rust.nearest);
+    tally.compare(judge_of(&rust.nearest), same_id, describe);
+    if rust.nearest.is_ok() {
+        let same_rest = same_result(nearest, &rust.nearest, same_measures);
+        tally.compare(Judge::Beside, same_rest, describe);
+    }
+    let same_kept = same_result(located, &rust.located, same_triangle);
+    let describe = || format!("locate, {}: {located:?}, Rust {:?}", name(), rust.located);
+    tally.compare(judge_of(&rust.located), same_kept, describe);
+    if rust.located.is_ok() {
+        let same_least = same_result(located, &rust.located, |x, y| same(x.least, y.least));
+        tally.compare(Judge::Beside, same_least, describe);
+    }
+}
+
+/// The whole answers are held to the text.
+fn compare_with_text(tally: &mut Tally, ours: &Answers, text: &Answers, name: impl Fn() -> String) {
+    let (nearest, located) = (&ours.nearest, &ours.located);
+    let same_nearest = same_result(nearest, &text.nearest, |x, y| {
+        x.id == y.id && same_measures(x, y)
     });
-    let ours = grid.locate(v).map_err(Refusal::number);
-    tally.compare(same_located(&ours, &other.located), || {
-        format!("locate, {name}, {v:?}: {ours:?}, other {:?}", other.located)
+    tally.compare(Judge::Rows, same_nearest, || {
+        format!("nearest, {}: {nearest:?}, text {:?}", name(), text.nearest)
+    });
+    let same_located = same_result(located, &text.located, |x, y| {
+        same_triangle(x, y) && same(x.least, y.least)
+    });
+    tally.compare(Judge::Rows, same_located, || {
+        format!("locate, {}: {located:?}, text {:?}", name(), text.located)
     });
 }
 
@@ -156,7 +185,8 @@ fn directions(tally: &mut Tally, parity: usize) {
         let name = format!("frequency {frequency}");
         for _ in 0..DIRECTIONS {
             let v = inputs.direction();
-            compare(tally, &slices, v, rust_answers(&slices, &grid, v), &name);
+            let (ours, rust) = (our_answers(&slices, v), rust_answers(&slices, &grid, v));
+            compare_with_rust(tally, &ours, &rust, || format!("{name}, {v:?}"));
         }
     }
 }
@@ -328,8 +358,9 @@ fn damaged(tally: &mut Tally) {
             for _ in 0..100 {
                 let v = inputs.direction();
                 let answers = answers_by_the_text(&slices, v);
-                rows.count(answers.located.err());
-                compare(tally, &slices, v, answers, &name);
+                rows.count(answers.located.as_ref().err().copied());
+                let ours = our_answers(&slices, v);
+                compare_with_text(tally, &ours, &answers, || format!("{name}, {v:?}"));
             }
         }
     }

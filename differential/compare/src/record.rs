@@ -35,26 +35,71 @@ const GRIDS: usize = 200;
 /// Directions of a random grid.
 const QUERIES: usize = 6;
 
+/// What the wrong records are made of: the file of a right one, the record in it, and the word of its
+/// answers that is changed, both counted from 0.
+const WRONG: [(&str, usize, usize); 14] = [
+    ("mul_add", 0, 0),
+    ("sqrt", 0, 0),
+    // The conversion, of a negative number and of a positive one.
+    ("integral", 0, 2),
+    ("integral", 3, 2),
+    ("total_order", 2, 0),
+    ("face_choices", 0, 1),
+    // The second weight.
+    ("analytic_queries", 3, 5),
+    // A coordinate: whole list of f64.
+    ("lattices", 8, 19),
+    // The hashes of positions and queue: f64 and u32.
+    ("lattice_hashes", 2, 1),
+    ("lattice_hashes", 2, 8),
+    // The hash of the cell ids: u16.
+    ("grid_hashes", 2, 8),
+    // A vertex of the order: whole list of u32.
+    ("meshes", 12, 5),
+    // An entry: whole list of u16.
+    ("renumberings", 0, 80),
+    // The number of candidates of the fourth direction.
+    ("grid_queries", 8, 38),
+];
+/// The same for the locators: the side of the first record, and a weight on the grid.
+const WRONG_LOCATORS: [(usize, usize); 2] = [(0, 2), (1, 18)];
+
 /// What stands in lent places before a call.
 const F64_BEFORE: f64 = 1.5;
 const U32_BEFORE: u32 = 0xdead_beef;
 const U16_BEFORE: u16 = 0xbeef;
 
-/// A record being written: words with one space between them.
-#[derive(Default)]
-struct Record(String);
+/// A record being written: its words, and the places of those that are answers.
+#[derive(Clone, Default)]
+struct Record {
+    words: Vec<String>,
+    answers: Vec<usize>,
+    answering: bool,
+}
 
 impl Record {
-    fn word(mut self, word: &str) -> Self {
-        if !self.0.is_empty() {
-            self.0.push(' ');
+    /// The words from here on are inputs.
+    fn call(mut self) -> Self {
+        self.answering = false;
+        self
+    }
+
+    /// The words from here on are answers.
+    fn outcome(mut self) -> Self {
+        self.answering = true;
+        self
+    }
+
+    fn word(mut self, word: String) -> Self {
+        if self.answering {
+            self.answers.push(self.words.len());
         }
-        self.0.push_str(word);
+        self.words.push(word);
         self
     }
 
     fn number(self, number: impl Into<u64>) -> Self {
-        self.word(&format!("{:x}", number.into()))
+        self.word(format!("{:x}", number.into()))
     }
 
     fn length(self, length: usize) -> Self {
@@ -64,7 +109,7 @@ impl Record {
     /// Every NaN is the same word.
     fn double(self, x: f64) -> Self {
         if x.is_nan() {
-            self.word("nan")
+            self.word("nan".to_string())
         } else {
             self.number(x.to_bits())
         }
@@ -81,35 +126,37 @@ impl Record {
     fn lengths(self, lengths: &[usize]) -> Self {
         lengths
             .iter()
-            .fold(self, |record, &length| record.length(length))
+            .fold(self.call(), |record, &length| record.length(length))
     }
 
     fn direction(self, v: Vector3) -> Self {
-        self.doubles(&[v.x, v.y, v.z])
+        self.call().doubles(&[v.x, v.y, v.z])
     }
 
     fn analytic(self, answer: &Answer) -> Self {
+        let record = self.outcome();
         match answer {
-            Ok((ids, w)) => self.number(0u32).numbers(ids).doubles(&[w.u, w.v, w.w]),
-            Err(number) => self.number(*number).numbers(&[0u32; 6]),
+            Ok((ids, w)) => record.number(0u32).numbers(ids).doubles(&[w.u, w.v, w.w]),
+            Err(number) => record.number(*number).numbers(&[0u32; 6]),
         }
     }
 
     fn vertex(self, answer: Result<u32, u32>) -> Self {
         match answer {
-            Ok(id) => self.number(0u32).number(id),
-            Err(number) => self.number(number).number(0u32),
+            Ok(id) => self.outcome().number(0u32).number(id),
+            Err(number) => self.outcome().number(number).number(0u32),
         }
     }
 
     fn answers(self, answers: &Answers) -> Self {
+        let record = self.outcome();
         let nearest = match &answers.nearest {
             Ok(Nearest {
                 id,
                 candidates,
                 distance,
-            }) => self.numbers(&[0, *id, *candidates]).double(*distance),
-            Err(number) => self.numbers(&[*number, 0, 0, 0]),
+            }) => record.numbers(&[0, *id, *candidates]).double(*distance),
+            Err(number) => record.numbers(&[*number, 0, 0, 0]),
         };
         match &answers.located {
             Ok(Located {
@@ -122,6 +169,19 @@ impl Record {
                 .doubles(&[w.u, w.v, w.w, *least]),
             Err(number) => nearest.number(*number).numbers(&[0u32; 7]),
         }
+    }
+
+    /// The record with one word of its answers changed in its last bit.
+    fn wrong(&self, answer: usize) -> Self {
+        let mut record = self.clone();
+        let word = &mut record.words[self.answers[answer]];
+        let number = u64::from_str_radix(word, 16).expect("a changed word is a number");
+        *word = format!("{:x}", number ^ 1);
+        record
+    }
+
+    fn line(&self) -> String {
+        self.words.join(" ")
     }
 }
 
@@ -172,15 +232,64 @@ pub fn write(folder: &Path) -> io::Result<()> {
     let mut printed = String::new();
     fs::create_dir_all(folder.join("data"))?;
     for (name, records) in &files {
-        let text: String = records
-            .iter()
-            .map(|record| record.0.clone() + "\n")
-            .collect();
+        let text: String = records.iter().map(|record| record.line() + "\n").collect();
         fs::write(folder.join("data").join(name), &text)?;
         printed += &format!("{name}: {} records, 0 differences\n", records.len());
         println!("{name}: {} records, {} bytes", records.len(), text.len());
     }
+    for (name, text) in [
+        ("wrong_records", wrong_records(&files)),
+        ("wrong_locators", wrong_locators(&files)),
+    ] {
+        let count = text.lines().count();
+        fs::write(folder.join("data").join(name), &text)?;
+        printed += &format!("{name}: {count} records, {count} noticed\n");
+        println!("{name}: {count} records, {} bytes", text.len());
+    }
     fs::write(folder.join("stdout"), printed)
+}
+
+/// The number of a file in the program's order, and its records.
+fn right<'a>(files: &'a [(String, Records)], name: &str) -> (usize, &'a Records) {
+    let at = files.iter().position(|(file, _)| file == name);
+    let number = at.expect("a file of right records");
+    (number, &files[number].1)
+}
+
+/// Lines that are wrong on purpose, each behind the number of its kind.
+fn wrong_records(files: &[(String, Records)]) -> String {
+    let mut lines: Vec<String> = WRONG
+        .iter()
+        .map(|&(name, at, answer)| {
+            let (kind, records) = right(files, name);
+            format!("{kind:x} {}", records[at].wrong(answer).line())
+        })
+        .collect();
+    // A word too many; one too few, and as it was 0 no other rule sees that; an upper-case digit; no
+    // line feed at the end.
+    let (kind, roots) = right(files, "sqrt");
+    let record = roots[0].line();
+    let (x, root) = record.split_once(' ').expect("two words");
+    let upper_case = root.replacen('e', "E", 1);
+    assert_ne!(root, upper_case, "the root has a digit e");
+    for wrong in [
+        format!("{x} {root} 0"),
+        "0".to_string(),
+        format!("{x} {upper_case}"),
+        format!("{x} {root}"),
+    ] {
+        lines.push(format!("{kind:x} {wrong}"));
+    }
+    lines.join("\n")
+}
+
+/// A file of the locators' form, with every line wrong on purpose.
+fn wrong_locators(files: &[(String, Records)]) -> String {
+    let (_, records) = right(files, "locators_1");
+    WRONG_LOCATORS
+        .iter()
+        .map(|&(at, answer)| records[at].wrong(answer).line() + "\n")
+        .collect()
 }
 
 /// Cases from all over each class.
@@ -201,14 +310,19 @@ fn operands<const N: usize>(classes: &[Class<N>]) -> Vec<[f64; N]> {
 fn mul_add() -> Records {
     operands(TRIPLES)
         .into_iter()
-        .map(|[a, b, c]| Record::default().doubles(&[a, b, c, a.mul_add(b, c)]))
+        .map(|[a, b, c]| {
+            Record::default()
+                .doubles(&[a, b, c])
+                .outcome()
+                .double(a.mul_add(b, c))
+        })
         .collect()
 }
 
 fn sqrt() -> Records {
     operands(RADICANDS)
         .into_iter()
-        .map(|[x]| Record::default().doubles(&[x, x.sqrt()]))
+        .map(|[x]| Record::default().double(x).outcome().double(x.sqrt()))
         .collect()
 }
 
@@ -217,7 +331,9 @@ fn integral() -> Records {
     let record = |bits| {
         let x = f64::from_bits(bits);
         Record::default()
-            .doubles(&[x, x.floor(), x.ceil()])
+            .double(x)
+            .outcome()
+            .doubles(&[x.floor(), x.ceil()])
             .number(x as i64 as u64)
     };
     (0..PATTERNS).map(|_| record(patterns.random())).collect()
@@ -229,6 +345,7 @@ fn total_order() -> Records {
         let order = f64::from_bits(x).total_cmp(&f64::from_bits(y));
         Record::default()
             .numbers(&[x, y])
+            .outcome()
             .number((order as i8 + 1) as u64)
     };
     (0..PATTERNS)
@@ -334,6 +451,7 @@ fn lattices() -> Records {
         let call = Record::default()
             .number(n)
             .lengths(&places)
+            .outcome()
             .number(answer.err().unwrap_or(0));
         let left = mesh_words(call, &after).numbers(&over(U16_BEFORE, places[3], ids));
         records.push(walk_words(&mut random, left, &after));
@@ -366,6 +484,7 @@ fn lattice_hash(frequency: usize, lattice: &Lattice) -> Record {
     Record::default()
         .length(frequency)
         .lengths(&needed(&mesh, &lattice.ids))
+        .outcome()
         .number(0u32)
         .number(hash_f64s(&mesh.positions))
         .number(hash_u32s(&mesh.starts))
@@ -382,6 +501,7 @@ fn lattice_hashes() -> Records {
             let (walk, order, queue) = walk::rust_outcome(&lattice.lists.neighbors, count, count);
             lattice_hash(frequency, &lattice)
                 .lengths(&[count, count])
+                .outcome()
                 .numbers(&[walk.err().unwrap_or(0), walk.unwrap_or(0)])
                 .number(hash_u32s(&order))
                 .number(hash_u32s(&queue))
@@ -405,6 +525,7 @@ fn grid_hashes() -> Records {
             let grid = rust_grid(&lattice.lists);
             lattice_hash(frequency, &lattice)
                 .lengths(&grid_lengths(&grid))
+                .outcome()
                 .numbers(&[0, grid.side])
                 .number(hash_u32s(&grid.cell_starts))
                 .number(hash_u16s(&grid.cell_ids))
@@ -483,6 +604,7 @@ fn walk_words(random: &mut Random, record: Record, mesh: &Flat) -> Record {
     };
     record
         .lengths(&places)
+        .outcome()
         .numbers(&[answer.err().unwrap_or(0), answer.unwrap_or(0)])
         .numbers(&order)
         .numbers(&queue)
@@ -499,6 +621,7 @@ fn grid_words(random: &mut Random, record: Record, mesh: &Flat) -> Record {
     let [a, b, c, d] = places;
     record
         .lengths(&places)
+        .outcome()
         .number(row.unwrap_or(0))
         .number(written.as_ref().map_or(0, |grid| grid.side))
         .numbers(&over(
@@ -607,6 +730,7 @@ fn renumbering(state: &State, ids: &[u32], each: usize, places: [usize; 5]) -> R
         .numbers(ids)
         .length(each)
         .lengths(&places)
+        .outcome()
         .number(row.unwrap_or(0));
     mesh_words(call, &after.mesh).doubles(&after.values)
 }
@@ -667,8 +791,10 @@ fn locators(frequency: usize) -> Records {
     let mut records = vec![Record::default()
         .length(frequency)
         .lengths(&needed(&mesh, &lattice.ids))
+        .outcome()
         .number(0u32)
         .lengths(&grid_lengths(&slices))
+        .outcome()
         .numbers(&[0, slices.side])];
     let mut record = |v: Vector3| {
         let located = rust_answer(&oracle, &classifier, v);

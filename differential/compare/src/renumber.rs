@@ -1,6 +1,6 @@
 //! Renumbering beside the Rust's, and its refusals beside the rows' text.
 
-use crate::check::{Check, Rows, Tally};
+use crate::check::{Check, Judge, Rows, Tally};
 use crate::meshes::{permutation, Flat, Lattice, Lists, FREQUENCIES};
 use crate::patterns::Random;
 use crate::walk::{adjacency_row, damage, lists_of};
@@ -137,16 +137,22 @@ fn compare(tally: &mut Tally, start: &State, permutation: &[usize], each: usize,
         renumber(&mut ours, &ids, each, &mut room)
     };
     let rust = rust_renumbered(start, permutation, each);
-    tally.compare(refusal.is_none() && ours.same(&rust), || {
+    tally.compare(Judge::Rust, refusal.is_none() && ours.same(&rust), || {
         let (vertices, values) = (start.mesh.count(), start.values.len());
         format!("{name}: {vertices} vertices, {values} values, {each} each: {refusal:?}, or other slices than Rust's")
     });
 }
 
-/// `count` different values.
+/// `count` different values. One in eight is a NaN of any sign, kind and payload: a value is moved
+/// with its bits, and bits are compared.
 fn values(random: &mut Random, count: usize) -> Vec<f64> {
     let first = random.unit();
-    (0..count).map(|at| first + at as f64).collect()
+    (0..count)
+        .map(|at| match random.below(8) {
+            0 => f64::from_bits(random.bits() | 0x7ff0_0000_0000_0001),
+            _ => first + at as f64,
+        })
+        .collect()
 }
 
 /// The walk's order, the reversed one and a random one.
@@ -266,15 +272,15 @@ fn refusals(tally: &mut Tally) {
         let mut ours = start.clone();
         let mut room = Room::new(places);
         let refusal = renumber(&mut ours, &ids, each, &mut room);
-        let slices = match row {
-            Some(_) => ours.same(&start) && room.untouched(),
+        let (judge, slices) = match row {
+            Some(_) => (Judge::Rows, ours.same(&start) && room.untouched()),
             None => {
                 let old: Vec<usize> = ids.iter().map(|&id| id as usize).collect();
-                ours.same(&rust_renumbered(&start, &old, each))
+                (Judge::Rust, ours.same(&rust_renumbered(&start, &old, each)))
             }
         };
         rows.count(row);
-        tally.compare(refusal == row && slices, || {
+        tally.compare(judge, refusal == row && slices, || {
             format!("call {at}: {start:?}, {ids:?}, {each} each, places {places:?}: {refusal:?}, rows {row:?}, slices as they should be: {slices}")
         });
     }

@@ -1,6 +1,7 @@
-//! Vector operations beside the oracle's, and row 9 beside its text.
+//! Vector operations beside those of the oracle's stand-in for nalgebra, which follows document 01's
+//! text, and row 9 beside its text.
 
-use crate::check::{same, Check, Tally};
+use crate::check::{same, Check, Judge, Tally};
 use crate::directions::{row_9, rust_of};
 use crate::patterns::{Vectors, RANDOM};
 use icotable_oracle as rust;
@@ -22,7 +23,7 @@ pub fn checks() -> Vec<Check> {
 }
 
 fn compare_numbers(tally: &mut Tally, input: impl std::fmt::Debug, ours: f64, rust: f64) {
-    tally.compare(same(ours, rust), || {
+    tally.compare(Judge::Beside, same(ours, rust), || {
         format!("{input:?}: {ours:?}, Rust {rust:?}")
     });
 }
@@ -34,7 +35,9 @@ fn compare_vectors(
     rust: rust::Vector3,
 ) {
     let all = same(ours.x, rust.x) && same(ours.y, rust.y) && same(ours.z, rust.z);
-    tally.compare(all, || format!("{input:?}: {ours:?}, Rust {rust:?}"));
+    tally.compare(Judge::Beside, all, || {
+        format!("{input:?}: {ours:?}, Rust {rust:?}")
+    });
 }
 
 fn each_vector(seed: u64, mut visit: impl FnMut(Vector3)) {
@@ -124,7 +127,7 @@ fn direction(tally: &mut Tally) {
         };
         let ours = v.check_direction().err().map(koshirga::Refusal::number);
         let text = row_9(v).then_some(9);
-        tally.compare(ours == text, || {
+        tally.compare(Judge::Rows, ours == text, || {
             format!("direction of {v:?}: {ours:?}, row 9 {text:?}")
         });
     }

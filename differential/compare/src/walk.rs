@@ -1,6 +1,6 @@
 //! The breadth-first order beside the Rust's, and its refusals beside the rows' text.
 
-use crate::check::{Check, Rows, Tally};
+use crate::check::{Check, Judge, Rows, Tally};
 use crate::meshes::{Flat, Lattice, Lists, FREQUENCIES};
 use crate::patterns::Random;
 use icotable_oracle as rust;
@@ -53,9 +53,19 @@ fn compare(tally: &mut Tally, lists: &Lists, surplus: [usize; 2]) {
     let places = surplus.map(|more| flat.count() + more);
     let ours = walked(&flat, places[0], places[1]);
     let rust = rust_outcome(&lists.neighbors, places[0], places[1]);
-    tally.compare(ours == rust, || {
-        format!("walk of {:?}: {ours:?}, Rust {rust:?}", lists.neighbors)
-    });
+    held_to_rust(tally, &ours, &rust, || format!("{:?}", lists.neighbors));
+}
+
+/// The order is the Rust's. Queue and answer, which it does not return, are worked out from it; row
+/// 13 is the text's.
+fn held_to_rust(tally: &mut Tally, ours: &Outcome, rust: &Outcome, name: impl Fn() -> String) {
+    let describe = || format!("walk of {}: {ours:?}, Rust {rust:?}", name());
+    tally.compare(Judge::Rust, ours.1 == rust.1, describe);
+    let judge = match rust.0 {
+        Ok(_) => Judge::Beside,
+        Err(_) => Judge::Rows,
+    };
+    tally.compare(judge, ours.0 == rust.0 && ours.2 == rust.2, describe);
 }
 
 fn lattices(tally: &mut Tally) {
@@ -148,19 +158,21 @@ fn refusals(tally: &mut Tally) {
         let short = order_places < count || queue_places < count;
         let row = adjacency_row(&flat).or(short.then_some(8));
         let ours = walked(&flat, order_places, queue_places);
-        let text = match row {
-            Some(number) => (
-                Err(number),
-                vec![BEFORE; order_places],
-                vec![BEFORE; queue_places],
-            ),
-            None => rust_outcome(&lists_of(&flat), order_places, queue_places),
+        let name = || format!("{flat:?}, places {order_places}, {queue_places}");
+        let Some(number) = row else {
+            let rust = rust_outcome(&lists_of(&flat), order_places, queue_places);
+            rows.count(rust.0.err());
+            held_to_rust(tally, &ours, &rust, name);
+            continue;
         };
-        rows.count(text.0.err());
-        tally.compare(ours == text, || {
-            format!(
-                "walk of {flat:?}, places {order_places}, {queue_places}: {ours:?}, rows {text:?}"
-            )
+        rows.count(row);
+        let text = (
+            Err(number),
+            vec![BEFORE; order_places],
+            vec![BEFORE; queue_places],
+        );
+        tally.compare(Judge::Rows, ours == text, || {
+            format!("walk of {}: {ours:?}, rows {text:?}", name())
         });
     }
     rows.all_reached(tally, &[2, 3, 4, 8, 13]);

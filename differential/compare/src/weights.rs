@@ -1,7 +1,7 @@
 //! Barycentric weights beside the Rust's.
 
 use crate::analytic::same_weights;
-use crate::check::{same, Check, Tally};
+use crate::check::{same, Check, Judge, Tally};
 use crate::directions::rust_of;
 use crate::patterns::{Random, Vectors, RANDOM};
 use icotable_oracle as rust;
@@ -49,7 +49,7 @@ fn each(tally: &mut Tally, seed: u64, draw: fn(&mut Source) -> [Vector3; 4]) {
         let [u, v, w] =
             rust::projected_barycentric(&rust_of(p), &rust_of(a), &rust_of(b), &rust_of(c));
         let rust = Weights { u, v, w };
-        tally.compare(same_weights(ours, rust), || {
+        tally.compare(Judge::Rust, same_weights(ours, rust), || {
             format!("weights of {p:?} in {a:?} {b:?} {c:?}: {ours:?}, Rust {rust:?}")
         });
     }
@@ -127,7 +127,7 @@ fn least(tally: &mut Tally) {
             w: component(v.z),
         };
         let (ours, text) = (least_weight(weights), least_by_the_text(weights));
-        tally.compare(same(ours, text), || {
+        tally.compare(Judge::Beside, same(ours, text), || {
             format!("least of {weights:?}: {ours:?}, by the text {text:?}")
         });
     }

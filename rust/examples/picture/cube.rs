@@ -14,7 +14,7 @@ pub struct Cell {
 }
 
 impl Cell {
-    /// The cell of a normalised direction (document 01, "Cube grid").
+    /// The cell of a normalised direction (docs/DATASHEET.md, "Grid queries").
     pub fn of(v: Vector3, side: u32) -> Self {
         let (ax, ay, az) = (v.x.abs(), v.y.abs(), v.z.abs());
         let (face, u, w, d) = if ax >= ay && ax >= az {

@@ -3,7 +3,7 @@ use native.Mathlib.Omega.{arith}
 use mathlib.Core.Path.{sym}
 use lib.Seq.{length-take-le}
 use borrow.Author.Needs.{needs}
-use Rattle.bracket_list.proofs.Written.{printed}
+use Rattle.bracket_list.proofs.Written.{written-as}
 use Rattle.bracket_list.proofs.Listing.{few, starts-some, lattice-walkable, lattice-compressed, reach-few, listing-is, listing-fits}
 use Rattle.bracket_list.proofs.list_mesh.Statement.{statement}
 use Rattle.bracket_list.proofs.list_mesh.Tie as tie
@@ -45,7 +45,7 @@ returns : tie.Need-returns
 returns c =
     let b = c .before .before .before .before .before in
     let s = b .before .before .before .before .before in
-    printed (listing-is (s .pre) (length-take-le _ _ (few (s .pre))) (b .breadth-first .ensures)) (omega (arith, listing-fits (s .pre) (length-take-le _ _ (few (s .pre))) (b .breadth-first .ensures))) (c .write-listing .ensures)
+    written-as (listing-is (s .pre) (length-take-le _ _ (few (s .pre))) (b .breadth-first .ensures)) (c .write-listing .ensures)
 
 pub list-mesh-spec : {M : Type 1} → statement M
 list-mesh-spec =

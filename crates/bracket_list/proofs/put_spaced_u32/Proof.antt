@@ -21,7 +21,7 @@ abbrev μ-loop : tie.MeasureT-loop
 
 loop-holds : tie.Need-loop-holds Inv-loop μ-loop
 unfolding spaced
-loop-holds c = (omega arith, written-none _ _)
+loop-holds c = (omega arith, written-none _ _ (omega arith))
 
 mul-put-separated : tie.Need-mul-put-separated Inv-loop μ-loop
 mul-put-separated c = search needs

@@ -52,6 +52,7 @@ same-length c = c .before .loop .inv .1
 returns : tie.Need-returns Inv-loop μ-loop
 returns c = record {
   behind = omega arith;
+  within = omega arith;
   size = c .before .loop .inv .1;
   stored = c .before .loop .inv .2 ∙ ap (sets _ _) (take-all _ _ (c .loop-test .left));
 }

@@ -23,7 +23,7 @@ row : (c : tie.In-loop Inv-loop μ-loop) → RowAt (start-of (c .before) .args .
 row c = row-at (start-of (c .before) .pre .0) (c .before .loop .v) (c .loop-test .taken)
 
 loop-holds : tie.Need-loop-holds Inv-loop μ-loop
-loop-holds c = let s = c .before .before .before in (omega arith, written-as (sym (vertices-none (s .args .starts .now) (s .args .entries .now))) (written-none _ _))
+loop-holds c = let s = c .before .before .before in (omega arith, written-as (sym (vertices-none (s .args .starts .now) (s .args .entries .now))) (written-none _ _ (omega (arith, s .pre .1))))
 
 mul-start : tie.Need-mul-start Inv-loop μ-loop
 mul-start c = omega (arith, row c, start-of (c .before) .pre .1)

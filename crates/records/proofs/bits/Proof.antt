@@ -1,11 +1,14 @@
--- `records::bits` meets its contract. Assumes nothing.
+-- `records::bits` meets its contract: a NaN has the one pattern. Assumes nothing.
 use borrow.Author.Needs.{needs}
-use Rattle.binary64.proofs.Nan.{no-nan}
+use mathlib.Core.Path.{refl}
+use lib.Ieee.{toBits}
+use Rattle.binary64.proofs.Nan.{is-nan, no-nan}
 use Rattle.records.proofs.bits.Statement.{statement}
 use Rattle.records.proofs.bits.Tie as tie
 
 returns : tie.Need-returns
-returns c = search needs
+unfolding toBits
+returns c = rw (is-nan (c .before .args .x) (c .if1 .taken)) refl
 
 float-to-bits-result : tie.Need-float-to-bits-result
 float-to-bits-result c = no-nan (c .before .args .x) (c .if1 .left)

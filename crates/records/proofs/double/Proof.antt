@@ -1,17 +1,32 @@
--- `records::double` meets its contract: a pattern that is no greater than an infinity's, the sign left out, is no NaN's. Assumes nothing.
-use mathlib.Core.Path.{sym, subst}
-use Prim.Native.Nat.{_*_, _%_, _^_}
-use mathlib.Core.Bool.{Bool, not}
+-- `records::double` meets its contract: a pattern is a NaN's where it is greater than an infinity's, the sign left out. Assumes nothing.
+use Prim.Native.Nat.{ℕ, _*_, _%_, _^_, _<_}
+use mathlib.Core.Path.{_≡_, refl, sym, subst, _∙_}
+use mathlib.Core.Bool.{Bool, true, not, true≢false}
 use borrow.Author.Needs.{needs}
+use borrow.Author.Tests.{lt-ltb}
 use lib.Dec.{T}
 use lib.Arith.{le→nltb}
-use lib.Ieee.{binary64}
-use lib.Ieee.Bits.{nanBits-above}
+use lib.Ieee.{Float, nan, inf, fin, binary64, div, isNan, ofBits}
+use lib.Ieee.Bits.{nanBits-is, nanBits-above}
 use Rattle.records.proofs.double.Statement.{statement}
 use Rattle.records.proofs.double.Tie as tie
 
+only-nan : (x : Float) → isNan x ≡ true → x ≡ nan
+unfolding isNan
+only-nan nan e = refl
+only-nan (inf s) e = absurd (true≢false (sym e))
+only-nan (fin s m x) e = absurd (true≢false (sym e))
+
+-- what the code returns for a NaN
+zero-over-zero : div binary64 (ofBits binary64 0) (ofBits binary64 0) ≡ nan
+unfolding div ofBits
+zero-over-zero = refl
+
+reads-nan : (bits : ℕ) → 2047 * 2 ^ 52 < bits % 2 ^ 63 → ofBits binary64 bits ≡ nan
+reads-nan bits h = only-nan (ofBits binary64 bits) (sym (nanBits-is binary64 bits) ∙ nanBits-above binary64 bits ∙ lt-ltb _ _ h)
+
 returns : tie.Need-returns
-returns c = search needs
+returns c = zero-over-zero ∙ sym (reads-nan (c .before .args .bits) (c .if1 .taken))
 
 float-from-bits-result : tie.Need-float-from-bits-result
 float-from-bits-result c =

@@ -1,18 +1,22 @@
--- `records::expect_each_u32` meets its contract. Assumes nothing.
-use Prim.Native.Nat.{_-_}
+-- `records::expect_each_u32` meets its contract: what is left of the list decides. Assumes nothing.
 use borrow.Author.Needs.{needs}
-use lib.ListN.{length}
+use Prim.Native.Nat.{_-_}
+use mathlib.Core.Path.{_≡_, refl, sym, _∙_}
+use lib.ListN.{length, drop}
+use Rattle.records.specs.Words.{cursorAt}
+use Rattle.records.specs.Lists.{expectedEach}
+use Rattle.records.proofs.Lists.{each-next, each-all}
 use Rattle.records.proofs.expect_each_u32.Statement.{statement}
 use Rattle.records.proofs.expect_each_u32.Tie as tie
 
 abbrev Inv-loop : tie.InvT-loop
-Inv-loop text list at₀ good₀ i₀ at good i = Unit {0}
+Inv-loop text list at₀ good₀ i₀ at good i = expectedEach text (cursorAt at good) (drop i list) ≡ expectedEach text (cursorAt at₀ good₀) list
 
 abbrev μ-loop : tie.MeasureT-loop
 μ-loop text list at₀ good₀ i₀ at good i = length list - i
 
 loop-holds : tie.Need-loop-holds Inv-loop μ-loop
-loop-holds c = search needs
+loop-holds c = refl
 
 mul-widen-u32 : tie.Need-mul-widen-u32 Inv-loop μ-loop
 mul-widen-u32 c = search needs
@@ -33,10 +37,12 @@ loop-less : tie.Need-loop-less Inv-loop μ-loop
 loop-less c = search needs
 
 loop-again : tie.Need-loop-again Inv-loop μ-loop
-loop-again c = search needs
+loop-again c =
+    let l = c .before .before .before .before in
+    each-next _ _ _ _ (c .before .before .before .loop-test .taken) (c .before .widen-u32 .ensures) (c .expect .ensures) ∙ l .loop .inv
 
 returns : tie.Need-returns Inv-loop μ-loop
-returns c = search needs
+returns c = sym (each-all _ _ _ _ (c .loop-test .left)) ∙ c .before .loop .inv
 
 pub expect-each-u32-spec : {M : Type 1} → statement M
 expect-each-u32-spec =

@@ -1,18 +1,22 @@
--- `records::hash_u16s` meets its contract. Assumes nothing.
-use Prim.Native.Nat.{_-_}
+-- `records::hash_u16s` meets its contract: what is left of the list gives the same hash from the hash so far. Assumes nothing.
 use borrow.Author.Needs.{needs}
-use lib.ListN.{length}
+use Prim.Native.Nat.{_-_}
+use mathlib.Core.Path.{_≡_, refl, sym, _∙_}
+use lib.ListN.{length, drop}
+use Rattle.records.specs.Hash.{hashedBytes, bytesOfEach, hashOf}
+use Rattle.records.proofs.Hash.{hash-next, hash-all}
 use Rattle.records.proofs.hash_u16s.Statement.{statement}
 use Rattle.records.proofs.hash_u16s.Tie as tie
 
 abbrev Inv-loop : tie.InvT-loop
-Inv-loop list hash₀ i₀ hash i = Unit {0}
+Inv-loop list hash₀ i₀ hash i = hashedBytes hash (bytesOfEach 2 (drop i list)) ≡ hashOf 2 list
 
 abbrev μ-loop : tie.MeasureT-loop
 μ-loop list hash₀ i₀ hash i = length list - i
 
 loop-holds : tie.Need-loop-holds Inv-loop μ-loop
-loop-holds c = search needs
+unfolding hashOf
+loop-holds c = refl
 
 mul-widen-u16 : tie.Need-mul-widen-u16 Inv-loop μ-loop
 mul-widen-u16 c = search needs
@@ -33,10 +37,12 @@ loop-less : tie.Need-loop-less Inv-loop μ-loop
 loop-less c = search needs
 
 loop-again : tie.Need-loop-again Inv-loop μ-loop
-loop-again c = search needs
+loop-again c =
+    let l = c .before .before .before .before in
+    hash-next _ _ _ _ (c .before .before .before .loop-test .taken) (c .before .widen-u16 .ensures) (c .hash-bytes .ensures) ∙ l .loop .inv
 
 returns : tie.Need-returns Inv-loop μ-loop
-returns c = search needs
+returns c = sym (hash-all _ _ _ _ (c .loop-test .left)) ∙ c .before .loop .inv
 
 pub hash-u16s-spec : {M : Type 1} → statement M
 hash-u16s-spec =

@@ -1,34 +1,35 @@
--- `records::read_u16s` meets its contract. Assumes nothing.
-use Prim.Native.Nat.{_-_}
+-- `records::read_u16s` meets its contract: the places up to `i` are read. Assumes nothing.
 use borrow.Author.Needs.{needs}
+use Prim.Native.Nat.{_-_}
+use native.Mathlib.Omega.{arith}
+use mathlib.Core.Path.{refl}
 use lib.ListN.{length}
-use mathlib.Core.Path.{_≡_}
+use Rattle.records.specs.Words.{cursorAt}
+use Rattle.records.proofs.Words.{at-most}
+use Rattle.records.proofs.Lists.{ReadSoFar, read-none, read-next, read-all}
 use Rattle.records.proofs.read_u16s.Statement.{statement}
 use Rattle.records.proofs.read_u16s.Tie as tie
 
 abbrev Inv-loop : tie.InvT-loop
-Inv-loop text list₀ at₀ good₀ i₀ list at good i = length list ≡ length list₀
+Inv-loop text list₀ at₀ good₀ i₀ list at good i = ReadSoFar (λ n. n) 0xffff text (cursorAt at₀ good₀) list₀ list i (cursorAt at good) 0
 
 abbrev μ-loop : tie.MeasureT-loop
 μ-loop text list₀ at₀ good₀ i₀ list at good i = length list₀ - i
 
 loop-holds : tie.Need-loop-holds Inv-loop μ-loop
-loop-holds c = search needs
+loop-holds c = read-none (λ n. n) 0xffff _ _
 
-take-requires : tie.Need-take-requires Inv-loop μ-loop
-take-requires c κs = search needs
+take-at-most-requires : tie.Need-take-at-most-requires Inv-loop μ-loop
+take-at-most-requires c κs = search needs
 
-narrow-u16-requires : tie.Need-narrow-u16-requires Inv-loop μ-loop
-narrow-u16-requires c κs = search needs
+cast-list : tie.Need-cast-list Inv-loop μ-loop
+cast-list c = let k = c .before in omega (arith, at-most _ _ _ (k .take-at-most .result) (k .take-at-most .ensures))
 
 mul-list : tie.Need-mul-list Inv-loop μ-loop
 mul-list c = search needs
 
 slice-write-list : tie.Need-slice-write-list Inv-loop μ-loop
 slice-write-list c = search needs
-
-fits-u16-requires : tie.Need-fits-u16-requires Inv-loop μ-loop
-fits-u16-requires c κs = search needs
 
 add-i : tie.Need-add-i Inv-loop μ-loop
 add-i c = search needs
@@ -37,13 +38,16 @@ loop-less : tie.Need-loop-less Inv-loop μ-loop
 loop-less c = search needs
 
 loop-again : tie.Need-loop-again Inv-loop μ-loop
-loop-again c = search needs
+loop-again c =
+    let k = c .before in
+    let l = k .before .before in
+    read-next (λ n. n) 0xffff _ _ (k .take-at-most .result) (search needs) (k .take-at-most .ensures) refl (l .loop .inv)
 
 same-length : tie.Need-same-length Inv-loop μ-loop
 same-length c = search needs
 
 returns : tie.Need-returns Inv-loop μ-loop
-returns c = search needs
+returns c = read-all (λ n. n) 0xffff _ _ (search needs) (c .before .loop .inv)
 
 pub read-u16s-spec : {M : Type 1} → statement M
 read-u16s-spec =
@@ -52,11 +56,10 @@ read-u16s-spec =
     Inv-loop
     μ-loop
     loop-holds
-    take-requires
-    narrow-u16-requires
+    take-at-most-requires
+    cast-list
     mul-list
     slice-write-list
-    fits-u16-requires
     add-i
     loop-less
     loop-again

@@ -40,10 +40,10 @@ cursor-requires-5 : tie.Need-cursor-requires-5
 cursor-requires-5 c κs = search needs
 
 slice-relend-prefix-replay-grid : tie.Need-slice-relend-prefix-replay-grid
-slice-relend-prefix-replay-grid c = search needs
+slice-relend-prefix-replay-grid c = omega (arith, c .before .before .before .before .before .before .before .before .before .take-length .ensures .1)
 
 slice-aggregate-replay-grid : tie.Need-slice-aggregate-replay-grid
-slice-aggregate-replay-grid c = sym (length-take-le _ _ (omega arith))
+slice-aggregate-replay-grid c = sym (length-take-le _ _ (omega (arith, c .before .before .before .before .before .before .before .before .before .before .take-length .ensures .1)))
 
 slice-relend-prefix-replay-grid-2 : tie.Need-slice-relend-prefix-replay-grid-2
 slice-relend-prefix-replay-grid-2 c = search needs

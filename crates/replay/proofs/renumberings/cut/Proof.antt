@@ -40,10 +40,10 @@ cursor-requires-5 : tie.Need-cursor-requires-5
 cursor-requires-5 c κs = search needs
 
 slice-relend-prefix-replay-renumbering : tie.Need-slice-relend-prefix-replay-renumbering
-slice-relend-prefix-replay-renumbering c = search needs
+slice-relend-prefix-replay-renumbering c = omega (arith, c .before .before .before .before .before .before .before .before .before .take-length .ensures .1)
 
 slice-aggregate-replay-renumbering : tie.Need-slice-aggregate-replay-renumbering
-slice-aggregate-replay-renumbering c = sym (length-take-le _ _ (omega arith))
+slice-aggregate-replay-renumbering c = sym (length-take-le _ _ (omega (arith, c .before .before .before .before .before .before .before .before .before .before .take-length .ensures .1)))
 
 slice-relend-prefix-replay-renumbering-2 : tie.Need-slice-relend-prefix-replay-renumbering-2
 slice-relend-prefix-replay-renumbering-2 c = search needs

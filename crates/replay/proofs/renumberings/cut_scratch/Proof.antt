@@ -43,10 +43,10 @@ cursor-requires-6 : tie.Need-cursor-requires-6
 cursor-requires-6 c κs = search needs
 
 slice-relend-prefix-call : tie.Need-slice-relend-prefix-call
-slice-relend-prefix-call c = search needs
+slice-relend-prefix-call c = omega (arith, c .before .before .before .before .before .before .before .before .before .before .before .before .before .take-length2 .ensures .1)
 
 slice-aggregate-call : tie.Need-slice-aggregate-call
-slice-aggregate-call c = sym (length-take-le _ _ (omega arith))
+slice-aggregate-call c = sym (length-take-le _ _ (omega (arith, c .before .before .before .before .before .before .before .before .before .before .before .before .before .before .take-length2 .ensures .1)))
 
 slice-relend-prefix-call-2 : tie.Need-slice-relend-prefix-call-2
 slice-relend-prefix-call-2 c = search needs

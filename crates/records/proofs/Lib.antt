@@ -1,0 +1,5 @@
+pub mod Run
+pub mod Words
+pub mod Lists
+pub mod Hash
+pub mod Cases
