@@ -7,13 +7,19 @@
 #include "koshirga.h"
 
 /* 0, but in `fuzz/run misread`, which builds with each other number in turn. Each puts one mistake
- * into the reading, and a run must then end with a difference: 1  rows 5 and 9 refuse the upper
- * end, 2^40 2  va, vb and vc round both products 3  flags 1 and 2 both set are refused 4  the first
- * corner of greatest weight, not the last 5  row 4 before row 3 6  the renumbering tests row 5 7
- * row 8 before row 6 8  floor in place of truncation when placing 9  a query tests row 9 before the
- * lengths of row 3 10  of equal leasts the later triangle is kept 11  refusal 13 leaves 0 at the
- * ids that weren't reached 12  no mistake in the reading: the engine is told of a place more than
- * it is lent, and faults */
+ * into the reading, and a run must then end with a difference:
+ *   1. rows 5 and 9 refuse the upper end, 2^40
+ *   2. va, vb and vc round both products
+ *   3. flags 1 and 2 both set are refused
+ *   4. the first corner of greatest weight, not the last
+ *   5. row 4 before row 3
+ *   6. the renumbering tests row 5
+ *   7. row 8 before row 6
+ *   8. floor in place of truncation when placing
+ *   9. a query tests row 9 before the lengths of row 3
+ *  10. of equal leasts the later triangle is kept
+ *  11. refusal 13 leaves 0 at the ids that weren't reached
+ *  12. no mistake in the reading: the engine is told of a place more than it is lent, and faults */
 #ifndef MISREAD
 #define MISREAD 0
 #endif

@@ -29,8 +29,7 @@
  * nothing else.
  *
  * Stack. koshirga_renumber takes 64 KiB and under 1 KiB more, also where it refuses. Every other
- * function takes under 4 KiB, and under 1 KiB unless a square root falls back to working out its
- * digits one by one, with a call for each. This was read from the archive's code and isn't proved.
+ * function takes under 4 KiB. This was read from the archive's code and isn't proved.
  */
 #ifndef KOSHIRGA_H
 #define KOSHIRGA_H
@@ -52,7 +51,7 @@ extern "C" {
 /* One of these is a call's result, or is in the first field of its answer, `refusal`. A call is
  * refused by the first of its rows that holds; its comment names them by number, in their order.
  * All other fields are then 0, and no slice is changed, but for KOSHIRGA_UNREACHED. Later versions
- * add rows: take every number but KOSHIRGA_ACCEPTED for a refusal, also one that isn't here. */
+ * may add rows: take every number but KOSHIRGA_ACCEPTED for a refusal, also one that isn't here. */
 enum koshirga_refusal {
     KOSHIRGA_ACCEPTED = 0,
     /* The frequency is below 1 or above 80. */
@@ -231,13 +230,15 @@ koshirga_face_answer koshirga_choose_face(bool i, bool j, bool k, bool first, bo
 
 /* The lattice triangle that a direction meets, with the weights of its corners. ids is the id table
  * of the frequency. The direction is not normalised. The answer's ids are the lattice's own, also
- * after the mesh was renumbered: take them through the permutation. Each operation is rounded by
- * itself (IEEE 754-2019, 5.4.1 and 4.3.1; floor 5.9, conversion 5.8). Rows 1, 8, 9, 10, 4. */
+ * after the mesh was renumbered: take them through the permutation. As in the original, ids may be
+ * equal, and weights may lie outside 0 to 1 or sum to about 0: docs/DIFFERENCES.md has the inputs.
+ * Each operation is rounded by itself (IEEE 754-2019, 5.4.1 and 4.3.1; floor 5.9, conversion 5.8).
+ * Rows 1, 8, 9, 10, 4. */
 koshirga_analytic_answer koshirga_analytic_locate(uint32_t frequency, const uint16_t *ids,
                                                   size_t ids_length, koshirga_vector3 direction);
 
 /* The last corner of that triangle with the greatest weight in total order (IEEE 754-2019, 5.10); a
- * lattice id too. Rows as above. */
+ * lattice id too, and at times that of a neighbour of the nearest vertex. Rows as above. */
 koshirga_vertex_answer koshirga_analytic_nearest(uint32_t frequency, const uint16_t *ids,
                                                  size_t ids_length, koshirga_vector3 direction);
 

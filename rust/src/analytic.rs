@@ -70,9 +70,10 @@ pub struct AnalyticLattice<'a> {
 }
 
 impl AnalyticLattice<'_> {
-    /// The ids of the triangle that a direction meets, with their weights. The direction is not
-    /// normalised; each operation is rounded by itself (IEEE 754-2019, 5.4.1 and 4.3.1). Rows 1, 8,
-    /// 9, 10 and 4 refuse, in this order.
+    /// The ids of the triangle that a direction meets, with their weights. As in the original, ids
+    /// may be equal, and weights may lie outside 0 to 1 or sum to about 0: `docs/DIFFERENCES.md` has
+    /// the inputs. The direction is not normalised; each operation is rounded by itself (IEEE
+    /// 754-2019, 5.4.1 and 4.3.1). Rows 1, 8, 9, 10 and 4 refuse, in this order.
     pub fn locate(&self, direction: Vector3) -> Result<([u32; 3], Weights), Refusal> {
         let answer = ffi::analytic_locate(self.frequency, self.ids, direction);
         Refusal::check(answer.refusal)?;
@@ -80,7 +81,7 @@ impl AnalyticLattice<'_> {
     }
 
     /// The last corner of that triangle with the greatest weight in total order (IEEE 754-2019,
-    /// 5.10). Rows as for `locate`.
+    /// 5.10), at times a neighbour of the nearest vertex. Rows as for `locate`.
     pub fn find_nearest_vertex(&self, direction: Vector3) -> Result<u32, Refusal> {
         let answer = ffi::analytic_nearest(self.frequency, self.ids, direction);
         Refusal::check(answer.refusal)?;

@@ -33,7 +33,7 @@ pub struct Nearest {
 /// The triangle of a direction.
 #[derive(Clone, Copy, Debug, PartialEq)]
 pub struct Located {
-    /// The corners' ids, ascending.
+    /// The corners' ids, ascending where a builder made the grid.
     pub triple: [u32; 3],
     /// The corners' weights.
     pub weights: Weights,

@@ -3,7 +3,8 @@
 use std::fmt;
 
 /// A refusal, by the number of its row. A call is refused by the first row that holds, in the order
-/// that the section "Refusals" of `docs/DATASHEET.md` gives for each call. Later versions add rows.
+/// that the section "Refusals" of `docs/DATASHEET.md` gives for each call. Later versions may add
+/// rows.
 ///
 /// | Row | What was checked | When it refuses |
 /// |---:|---|---|

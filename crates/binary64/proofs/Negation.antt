@@ -31,7 +31,7 @@ neg-units f s q k = go (ltb (q * 2 ^ k) (2 ^ (low f + suc (emax f))))
     go true = neg-odd (suc (prec f)) s q k (low f)
     go false = unfold neg in refl
 
--- Rounding to nearest treats the two signs alike.
+-- Rounding to nearest (IEEE 754-2019, 4.3.1) treats the two signs alike.
 pub neg-round : (f : Format) (s : Bool) (a c : ℕ) → neg (round f s a c) ≡ round f (not s) a c
 unfolding round
 neg-round f s a c =

@@ -1,5 +1,5 @@
--- Laws of the total order: it is one, it has the standard's chain of examples, it refines `lt`, and the rank says where a datum stands in it.
--- Sign and magnitude of an encoding decide throughout: a NaN's magnitude lies above the infinities', and grows as 5.10 d) 3) orders NaNs. Assumes nothing.
+-- Laws of the total order: it is one, it has the chain that follows from IEEE 754-2019, 5.10, it refines `lt`, and the rank says where a datum stands in it.
+-- Sign and magnitude of an encoding decide throughout: a NaN's magnitude lies above the infinities', and grows as NaNs are ordered: by IEEE 754-2019, 5.10 d) 3) i) and ii), and by their payloads. Assumes nothing.
 use mathlib.Core.Path.{_≡_, refl, sym, ap, _∙_}
 use mathlib.Core.Logic.{_⊎_, inl, inr}
 use mathlib.Core.Bool.{Bool, true, false, not, _||_, Bool·beq, cond}

@@ -1,4 +1,4 @@
--- x / 2 + 1 / 2 rounded once is the same with product and sum rounded apart, where x is not tiny: halving is exact. Assumes nothing.
+-- x / 2 + 1 / 2 rounded once (IEEE 754-2019, 4.3.1) is the same with product and sum rounded apart, where x is not tiny: halving is exact. Assumes nothing.
 use mathlib.Core.Path.{_≡_, refl, sym, ap, _∙_, subst}
 use mathlib.Core.Bool.{Bool, true, false, _||_, false≢true}
 use Prim.Native.Nat.{ℕ, zero, suc, _+_, _*_, _^_, _≤_, _<_}

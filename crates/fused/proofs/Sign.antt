@@ -1,4 +1,4 @@
--- The sign of a * b - p, rounded once, is that of the product rounded alone minus p, where these two differ and the product is not tiny: `product-decides`.
+-- The sign of a * b - p, rounded once (IEEE 754-2019, 4.3.1), is that of the product rounded alone minus p, where these two differ and the product is not tiny: `product-decides`.
 -- A rounding keeps the order, and p is its own rounding; and where no digit of the exact product lies below the format's smallest value, a difference above zero doesn't round to zero.
 -- Assumes nothing.
 use mathlib.Core.Path.{_≡_, refl, sym, ap, _∙_, subst}
