@@ -40,16 +40,19 @@ fn next_digit(s: RootState) -> RootState
     }
 }
 
-// `count` more digits of the root.
+// `count` more digits of the root, in a loop: nothing here reaches itself by calls, so that a trace
+// of them stays flat.
 fn next_digits(s: RootState, count: u64) -> RootState
     requires { ⌜ (s .remainder ≤ 2 * s .significand) × ((s .significand + 1) * 2 ^ count ≤ 2 ^ 60) ⌝ }
     ensures { λ r. ⌜ (r .remainder ≤ 2 * r .significand) × (scaledRadicand r ≡ 4 ^ count * scaledRadicand s) ⌝ }
 {
-    if count == 0 {
-        return s;
+    let mut state = s;
+    let mut wanted = count;
+    while 0 < wanted {
+        state = next_digit(state);
+        wanted -= 1;
     }
-    let t = next_digit(s);
-    next_digits(t, count - 1)
+    state
 }
 
 // The number significand^2 + remainder.
