@@ -29,7 +29,7 @@
  * nothing else.
  *
  * Stack. koshirga_renumber takes 64 KiB and under 1 KiB more, also where it refuses. Every other
- * function takes under 4 KiB. This was read from the archive's code and isn't proved.
+ * function takes under 1 KiB. This was read from the archive's code and isn't proved.
  */
 #ifndef KOSHIRGA_H
 #define KOSHIRGA_H
@@ -230,10 +230,10 @@ koshirga_face_answer koshirga_choose_face(bool i, bool j, bool k, bool first, bo
 
 /* The lattice triangle that a direction meets, with the weights of its corners. ids is the id table
  * of the frequency. The direction is not normalised. The answer's ids are the lattice's own, also
- * after the mesh was renumbered: take them through the permutation. As in the original, ids may be
- * equal, and weights may lie outside 0 to 1 or sum to about 0: docs/DIFFERENCES.md has the inputs.
- * Each operation is rounded by itself (IEEE 754-2019, 5.4.1 and 4.3.1; floor 5.9, conversion 5.8).
- * Rows 1, 8, 9, 10, 4. */
+ * after the mesh was renumbered: take them through the permutation. Some of them may be equal, and
+ * weights may lie outside 0 to 1 or sum to about 0: docs/DIFFERENCES.md has such directions. Each
+ * operation is rounded by itself (IEEE 754-2019, 5.4.1 and 4.3.1; floor 5.9, conversion 5.8). Rows
+ * 1, 8, 9, 10, 4. */
 koshirga_analytic_answer koshirga_analytic_locate(uint32_t frequency, const uint16_t *ids,
                                                   size_t ids_length, koshirga_vector3 direction);
 

@@ -70,9 +70,9 @@ pub struct AnalyticLattice<'a> {
 }
 
 impl AnalyticLattice<'_> {
-    /// The ids of the triangle that a direction meets, with their weights. As in the original, ids
-    /// may be equal, and weights may lie outside 0 to 1 or sum to about 0: `docs/DIFFERENCES.md` has
-    /// the inputs. The direction is not normalised; each operation is rounded by itself (IEEE
+    /// The ids of the triangle that a direction meets, with their weights. Some of the ids may be
+    /// equal, and weights may lie outside 0 to 1 or sum to about 0: `docs/DIFFERENCES.md` has such
+    /// directions. The direction is not normalised; each operation is rounded by itself (IEEE
     /// 754-2019, 5.4.1 and 4.3.1). Rows 1, 8, 9, 10 and 4 refuse, in this order.
     pub fn locate(&self, direction: Vector3) -> Result<([u32; 3], Weights), Refusal> {
         let answer = ffi::analytic_locate(self.frequency, self.ids, direction);
