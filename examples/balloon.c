@@ -7,8 +7,8 @@
  * renumber both in breadth-first order, so that neighbours lie close in memory; build the grid; ask
  * it. The analytic locator, which needs no grid and knows the lattice's own numbering alone, is
  * asked before. Its weights differ a little from the grid's: it projects radially, while the grid's
- * are those of the triangle's closest point. Every call says by a number whether it was refused;
- * accepted() turns that into a message. */
+ * are those of the triangle's closest point. Every call says by a number whether it was refused,
+ * and one of the numbers comes with an index; accepted_at() turns both into a message. */
 #include <math.h>
 #include <stdio.h>
 #include <stdlib.h>
@@ -24,8 +24,8 @@ static const char *const REFUSALS[] = {
     [KOSHIRGA_FREQUENCY] = "the frequency is below 1 or above 80",
     [KOSHIRGA_COUNT] = "no vertex, over 65536 of them, positions not three a vertex, or a side "
                        "that isn't the count's",
-    [KOSHIRGA_STARTS] = "the starts have a wrong length, don't begin at 0, fall, run past their "
-                        "list or end before it, or a list is over 32",
+    [KOSHIRGA_STARTS] = "a start list has a wrong length or runs past its ids or triples, or a "
+                        "neighbour list is over 32",
     [KOSHIRGA_ID] = "an id is not below the vertex count",
     [KOSHIRGA_POSITION] = "a position isn't finite, or its length is below 2^-20 or above 2^20",
     [KOSHIRGA_PERMUTATION] = "not a permutation of the ids",
@@ -37,17 +37,25 @@ static const char *const REFUSALS[] = {
     [KOSHIRGA_EMPTY_CELL] = "no vertex is in the direction's cell",
     [KOSHIRGA_NO_TRIANGLE] = "no triangle at the nearest vertex has a least weight",
     [KOSHIRGA_UNREACHED] = "the mesh is not connected",
+    [KOSHIRGA_STARTS_SPAN] = "the first start isn't 0, or the last isn't the number of entries",
+    [KOSHIRGA_STARTS_FALL] = "a start is below the one before it",
 };
 
-/* Ends the program where a call was refused. */
-static void accepted(const char *call, uint32_t refusal) {
+/* Ends the program where a call was refused; index is that of its answer. */
+static void accepted_at(const char *call, uint32_t refusal, size_t index) {
     size_t rows = sizeof REFUSALS / sizeof *REFUSALS;
     if (refusal == KOSHIRGA_ACCEPTED)
         return;
-    fprintf(stderr, "balloon: %s is refused (%u): %s\n", call, (unsigned)refusal,
+    fprintf(stderr, "balloon: %s is refused (%u): %s", call, (unsigned)refusal,
             refusal < rows && REFUSALS[refusal] ? REFUSALS[refusal] : "an unknown row");
+    if (refusal == KOSHIRGA_STARTS_FALL)
+        fprintf(stderr, ": the start at index %zu of its list, counted from 0", index);
+    fprintf(stderr, "\n");
     exit(1);
 }
+
+/* The same for a call whose answer has no index. */
+static void accepted(const char *call, uint32_t refusal) { accepted_at(call, refusal, 0); }
 
 /* Room for a slice; never null, as koshirga.h asks, and of at least one element. */
 static void *room(size_t count, size_t size) {
@@ -111,7 +119,7 @@ static uint32_t *renumber_by_walk(balloon *b) {
     koshirga_walk_answer walk =
         koshirga_walk(b->positions, 3 * b->vertices, b->starts, b->vertices + 1, b->neighbours,
                       b->entries, order, b->vertices, queue, b->vertices);
-    accepted("the walk", walk.refusal);
+    accepted_at("the walk", walk.refusal, walk.index);
 
     /* Each scratch slice is as long as the longest slice of the call. */
     size_t longest = b->entries > 3 * b->vertices ? b->entries : 3 * b->vertices;
@@ -120,11 +128,11 @@ static uint32_t *renumber_by_walk(balloon *b) {
     uint16_t *old_entries = room(longest, sizeof *old_entries);
     uint8_t *done = room(longest, sizeof *done);
     double *held = room(longest, sizeof *held);
-    accepted("the renumbering",
-             koshirga_renumber(b->positions, 3 * b->vertices, b->starts, b->vertices + 1,
-                               b->neighbours, b->entries, b->levels, b->vertices, order,
-                               b->vertices, 1, sources, longest, old_starts, longest, old_entries,
-                               longest, done, longest, held, longest));
+    koshirga_verdict_answer renumbered = koshirga_renumber(
+        b->positions, 3 * b->vertices, b->starts, b->vertices + 1, b->neighbours, b->entries,
+        b->levels, b->vertices, order, b->vertices, 1, sources, longest, old_starts, longest,
+        old_entries, longest, done, longest, held, longest);
+    accepted_at("the renumbering", renumbered.refusal, renumbered.index);
     free(queue);
     free(sources);
     free(old_starts);
@@ -150,7 +158,7 @@ static cube_grid make_grid(const balloon *b) {
         b->positions, 3 * b->vertices, b->starts, b->vertices + 1, b->neighbours, b->entries,
         g.cell_starts, g.cell_starts_length, g.cell_ids, ids_room, g.triangle_starts,
         g.triangle_starts_length, g.triples, triples_room);
-    accepted("the grid", built.refusal);
+    accepted_at("the grid", built.refusal, built.index);
     /* What is behind the last part was not filled. */
     g.cell_ids_length = g.cell_starts[g.cell_starts_length - 1];
     g.triples_length = 3 * (size_t)g.triangle_starts[g.triangle_starts_length - 1];
@@ -192,11 +200,11 @@ static void ask_grid(const balloon *b, const cube_grid *g, koshirga_vector3 dire
         b->positions, 3 * b->vertices, g->side, g->cell_starts, g->cell_starts_length, g->cell_ids,
         g->cell_ids_length, g->triangle_starts, g->triangle_starts_length, g->triples,
         g->triples_length, direction);
-    accepted("the location", at.refusal);
+    accepted_at("the location", at.refusal, at.index);
     koshirga_nearest_answer nearest = koshirga_grid_nearest(
         b->positions, 3 * b->vertices, g->side, g->cell_starts, g->cell_starts_length, g->cell_ids,
         g->cell_ids_length, g->triangle_starts, g->triangle_starts_length, direction);
-    accepted("the nearest vertex", nearest.refusal);
+    accepted_at("the nearest vertex", nearest.refusal, nearest.index);
     printf("grid of side %u, in walk order\n", (unsigned)g->side);
     print_location(
         (const uint32_t[]){at.first, at.second, at.third}, (const double[]){at.u, at.v, at.w},

@@ -247,6 +247,10 @@ static mesh any_slices(draw *d) {
         m.positions[i] = any_double(d);
     for (size_t i = 0; i < m.starts_length; i++)
         m.starts[i] = one_in(d, 8) ? (uint32_t)any_bits(d) : below(d, 20);
+    if (m.starts_length > 1 && one_in(d, 2)) { /* row 17 passes, and starts fall anywhere */
+        m.starts[0] = 0;
+        m.starts[m.starts_length - 1] = (uint32_t)m.entries_length;
+    }
     for (size_t i = 0; i < m.entries_length; i++)
         m.entries[i] = (uint16_t)(one_in(d, 8) ? any_bits(d) : below(d, 7));
     return m;
@@ -272,21 +276,59 @@ mesh any_mesh(draw *d) {
     return random_mesh(d);
 }
 
+/* The place of a start that is to fall: at times 1, for which the first has to be above 0; often 2,
+ * the first that can fall behind a 0, or the last. */
+static size_t any_fall(draw *d, size_t last) {
+    switch (below(d, 8)) {
+    case 0: return 1;
+    case 1:
+    case 2: return last < 2 ? last : 2;
+    case 3:
+    case 4: return last;
+    default: return 1 + below(d, (uint32_t)last);
+    }
+}
+
+/* Puts the start at a place, which is not the first, below the one before it: lowers it, or raises
+ * that one, so far at times that the list before is over the limit. */
+static void make_fall(draw *d, mesh *m, size_t place) {
+    uint32_t *start = m->starts + place;
+    if (start[-1] > 0 && one_in(d, 3))
+        start[0] = start[-1] - 1 - (one_in(d, 2) ? 0 : below(d, start[-1]));
+    else
+        start[-1] = start[0] + 1 + (one_in(d, 2) ? below(d, 3) : below(d, 3 * LIST_MAX));
+}
+
 static void damage_starts(draw *d, mesh *m) {
+    if (m->starts_length < 2)
+        return;
+    size_t last = m->starts_length - 1;
     uint32_t *start = &m->starts[below(d, (uint32_t)m->starts_length)];
-    switch (below(d, 6)) {
+    switch (below(d, 16)) {
     case 0: m->starts[0] = 1 + below(d, 3); break;
-    case 1: m->starts[m->starts_length - 1] += below(d, 3) - 1; break;
-    case 2: *start = (uint32_t)any_bits(d); break;
-    case 3: *start = 0; break;
-    default: *start += below(d, 5) - 2; break;
+    case 1: m->starts[last] += 1 + below(d, 3); break;
+    case 2: m->starts[last] -= 1 + below(d, 3); break;
+    case 3: *start = (uint32_t)any_bits(d); break;
+    case 4: *start = 0; break;
+    case 5: *start += below(d, 5) - 2; break;
+    case 6: /* row 17 twice over, and a fall */
+        m->starts[0] = 1 + below(d, 3);
+        m->starts[last] += below(d, 3) - 1;
+        make_fall(d, m, any_fall(d, last));
+        break;
+    case 7:
+    case 8: /* several falls */
+        for (uint32_t i = 2 + below(d, 2); i > 0; i--)
+            make_fall(d, m, any_fall(d, last));
+        break;
+    default: make_fall(d, m, any_fall(d, last)); break;
     }
 }
 
 /* Makes the list of a vertex longer, up to and beyond the limit. */
 static void lengthen_list(draw *d, mesh *m) {
     size_t count = m->starts_length - 1;
-    if (mesh_row(m, false) || m->entries_length + 40 > ENTRIES_ROOM)
+    if (mesh_row(m, false).refusal || m->entries_length + 40 > ENTRIES_ROOM)
         return;
     uint32_t v = below(d, (uint32_t)count), end = m->starts[v + 1];
     uint32_t added = LIST_MAX - 1 + below(d, 3) - (end - m->starts[v]);
@@ -315,28 +357,42 @@ void damage_mesh(draw *d, mesh *m) {
     size_t count = m->positions_length / 3;
     if (count == 0 || m->starts_length == 0)
         return;
-    switch (below(d, 12)) {
+    switch (below(d, 16)) {
     case 0: m->positions_length -= one_in(d, 4) ? m->positions_length : 1 + below(d, 3); break;
     case 1:
         if (m->positions_length < POSITIONS_ROOM)
             m->positions[m->positions_length++] = any_double(d);
         break;
-    case 2: m->starts_length -= one_in(d, 4) ? m->starts_length : 1; break;
+    case 2:
+        if (one_in(d, 4))
+            damage_starts(d, m);
+        m->starts_length -= one_in(d, 4) ? m->starts_length : 1;
+        break;
     case 3:
+        if (one_in(d, 4))
+            damage_starts(d, m);
         if (m->starts_length < STARTS_ROOM) {
             m->starts[m->starts_length] = (uint32_t)m->entries_length;
             m->starts_length++;
         }
         break;
     case 4:
-    case 5: damage_starts(d, m); break;
+    case 5:
     case 6:
+    case 7:
+    case 8: damage_starts(d, m); break;
+    case 9:
         if (m->entries_length > 0)
             m->entries_length -= one_in(d, 4) ? m->entries_length : 1;
         break;
-    case 7: lengthen_list(d, m); break;
-    case 8:
-    case 9:
+    case 10:
+    case 11:
+        lengthen_list(d, m);
+        if (one_in(d, 4))
+            damage_starts(d, m);
+        break;
+    case 12:
+    case 13:
         if (m->entries_length > 0)
             m->entries[below(d, (uint32_t)m->entries_length)] =
                 (uint16_t)(one_in(d, 2) ? count : any_bits(d));

@@ -201,6 +201,39 @@ static void hold_mesh(entry of) {
     hold(of, as_expected(2), "the entries");
 }
 
+/* 0 where it is the first start that can fall, 2 where it is the last of the list, 1 between. */
+static int place_of(size_t index, size_t first, size_t last) {
+    return index == first ? 0 : index == last ? 2 : 1;
+}
+
+/* Counts how the starts of a mesh were refused. */
+static void count_starts(entry of, const mesh *m, uint32_t row, size_t index) {
+    size_t count = m->positions_length / 3, length = m->starts_length, last = length - 1, falls = 0;
+    bool over = false;
+    if (row != 3 && row != 17 && row != 18)
+        return;
+    for (size_t i = 1; i < length; i++) {
+        falls += m->starts[i] < m->starts[i - 1];
+        over |= m->starts[i] > m->starts[i - 1] && m->starts[i] - m->starts[i - 1] > LIST_MAX;
+    }
+    if (row == 3)
+        count_way(of, length == count + 1 ? WAY_LONG_LIST : WAY_LENGTH);
+    if (row == 3 && falls)
+        count_way(of, WAY_LENGTH_AND_FALL);
+    if (row == 17)
+        count_way(of, m->starts[0] != 0                     ? WAY_SPAN_FIRST
+                      : m->starts[last] < m->entries_length ? WAY_SPAN_BELOW
+                                                            : WAY_SPAN_ABOVE);
+    if (row == 17 && falls)
+        count_way(of, m->starts[1] < m->starts[0] ? WAY_SPAN_AND_SECOND : WAY_SPAN_AND_FALL);
+    if (row == 18)
+        count_way(of, WAY_FALL_FIRST + place_of(index, 2, last));
+    if (row == 18 && falls > 1)
+        count_way(of, WAY_FALL_AGAIN);
+    if (row == 18 && over)
+        count_way(of, WAY_FALL_AND_LONG);
+}
+
 static void call_walk(draw *d, const mesh *drawn) {
     mesh e, m = lend_mesh(d, drawn, &e);
     size_t vertices = m.positions_length / 3;
@@ -213,6 +246,7 @@ static void call_walk(draw *d, const mesh *drawn) {
         koshirga_walk(m.positions, m.positions_length, m.starts, m.starts_length, m.entries,
                       m.entries_length, order.at, order_length, queue.at, queue_length);
     hold_row(ENTRY_walk, expected.refusal, answer.refusal);
+    hold_index(ENTRY_walk, answer.refusal, expected.index, answer.index);
     hold(ENTRY_walk, expected.entries_read == answer.entries_read, "the count of entries");
     hold_mesh(ENTRY_walk);
     hold(ENTRY_walk, as_expected(3), "the order");
@@ -221,6 +255,7 @@ static void call_walk(draw *d, const mesh *drawn) {
     for (uint32_t i = 0; !answer.refusal && i < vertices; i++)
         hold(ENTRY_walk, ids[i] < vertices && places[ids[i]] == i, "queue and order are inverse");
     count(ENTRY_walk, answer.refusal);
+    count_starts(ENTRY_walk, &e, answer.refusal, answer.index);
 }
 
 static size_t any_entries_per_vertex(draw *d, size_t vertices) {
@@ -294,23 +329,26 @@ static void call_renumber(draw *d, mesh *drawn) {
         scratch_lengths[i] = all_enough ? least + below(d, 3) : any_length(d, least);
         scratch[i] = lend(5 + i, any_garbage(d), scratch_lengths[i], SIZES[i], one_in(d, 2));
     }
-    uint32_t expected = expected_renumber(&e, values.expected, values_length, permutation.expected,
-                                          permutation_length, per_vertex, scratch_lengths);
-    uint32_t row = koshirga_renumber(
+    koshirga_verdict_answer expected =
+        expected_renumber(&e, values.expected, values_length, permutation.expected,
+                          permutation_length, per_vertex, scratch_lengths);
+    koshirga_verdict_answer answer = koshirga_renumber(
         m.positions, m.positions_length, m.starts, m.starts_length, m.entries, m.entries_length,
         values.at, values_length, permutation.at, permutation_length, per_vertex, scratch[0].at,
         scratch_lengths[0], scratch[1].at, scratch_lengths[1], scratch[2].at, scratch_lengths[2],
         scratch[3].at, scratch_lengths[3], scratch[4].at, scratch_lengths[4]);
-    hold_row(ENTRY_renumber, expected, row);
+    hold_row(ENTRY_renumber, expected.refusal, answer.refusal);
+    hold_index(ENTRY_renumber, answer.refusal, expected.index, answer.index);
     hold_mesh(ENTRY_renumber);
     hold(ENTRY_renumber, as_expected(3), "the values");
     hold(ENTRY_renumber, as_expected(4), "the permutation");
     for (int i = 0; i < 5; i++)
-        hold(ENTRY_renumber, as_expected_from(5 + i, row ? 0 : least), "scratch");
-    count(ENTRY_renumber, row);
-    if (row)
+        hold(ENTRY_renumber, as_expected_from(5 + i, answer.refusal ? 0 : least), "scratch");
+    count(ENTRY_renumber, answer.refusal);
+    count_starts(ENTRY_renumber, &e, answer.refusal, answer.index);
+    if (answer.refusal)
         return;
-    hold(ENTRY_renumber, mesh_row(&m, false) == 0, "the mesh passes its rows again");
+    hold(ENTRY_renumber, mesh_row(&m, false).refusal == 0, "the mesh passes its rows again");
     memcpy(drawn->positions, m.positions, m.positions_length * sizeof *m.positions);
     memcpy(drawn->starts, m.starts, m.starts_length * sizeof *m.starts);
     memcpy(drawn->entries, m.entries, m.entries_length * sizeof *m.entries);
@@ -383,7 +421,7 @@ static void *keep(void *room, const void *from, size_t length, size_t size) {
 /* Whether a grid was built; it is then in `built`, cut to its lengths, beside its positions. */
 static bool call_build_grid(draw *d, const mesh *drawn, grid *built, uint32_t *side) {
     mesh e, m = lend_mesh(d, drawn, &e);
-    bool passes = mesh_row(&e, true) == 0;
+    bool passes = mesh_row(&e, true).refusal == 0;
     grid needed = {.cell_starts_length = 25,
                    .cell_ids_length = 30,
                    .triangle_starts_length = e.positions_length / 3 + 1,
@@ -409,10 +447,12 @@ static bool call_build_grid(draw *d, const mesh *drawn, grid *built, uint32_t *s
         g.cell_starts, g.cell_starts_length, g.cell_ids, g.cell_ids_length, g.triangle_starts,
         g.triangle_starts_length, g.triples, g.triples_length);
     hold_row(ENTRY_build_grid, expected.refusal, answer.refusal);
+    hold_index(ENTRY_build_grid, answer.refusal, expected.index, answer.index);
     hold(ENTRY_build_grid, expected.side == answer.side, "the side");
     hold_mesh(ENTRY_build_grid);
     hold_grid(ENTRY_build_grid);
     count(ENTRY_build_grid, answer.refusal);
+    count_starts(ENTRY_build_grid, &e, answer.refusal, answer.index);
     if (answer.refusal)
         return false;
     hold_built(&g, &needed);
@@ -452,6 +492,36 @@ static void hold_query(entry of) {
     hold_grid(of);
 }
 
+/* Counts how a query refused the lengths of its starts, or the part that it read. */
+static void count_part(entry of, const query *e, vector v, uint32_t row, size_t index) {
+    const grid *g = &e->grid;
+    if (row != 3 && row != 18)
+        return;
+    if (g->cell_starts_length != 6 * (size_t)e->side * e->side + 1) {
+        count_way(of, WAY_CELL_LENGTH);
+        return;
+    }
+    if (g->triangle_starts_length != e->positions_length / 3 + 1) {
+        count_way(of, WAY_VERTEX_LENGTH);
+        return;
+    }
+    bool in_cell = expected_grid_nearest(e->positions, e->positions_length, e->side, g, v).refusal;
+    if (row == 3) {
+        count_way(of, in_cell ? WAY_PAST_IDS : WAY_PAST_TRIPLES);
+        return;
+    }
+    const uint32_t *starts = in_cell ? g->cell_starts : g->triangle_starts;
+    size_t last = (in_cell ? g->cell_starts_length : g->triangle_starts_length) - 1;
+    size_t most = in_cell ? g->cell_ids_length : g->triples_length / 3, before = 0;
+    for (size_t i = 1; i < index; i++)
+        before += starts[i] < starts[i - 1];
+    count_way(of, (in_cell ? WAY_CELL_FIRST : WAY_VERTEX_FIRST) + place_of(index, 1, last));
+    if (starts[index] > most)
+        count_way(of, in_cell ? WAY_CELL_AND_PAST : WAY_VERTEX_AND_PAST);
+    if (before)
+        count_way(of, in_cell ? WAY_CELL_NOT_FIRST : WAY_VERTEX_NOT_FIRST);
+}
+
 static void call_nearest(const query *q, const query *e, vector v) {
     const grid *g = &q->grid;
     koshirga_nearest_answer expected =
@@ -460,6 +530,7 @@ static void call_nearest(const query *q, const query *e, vector v) {
         q->positions, q->positions_length, q->side, g->cell_starts, g->cell_starts_length,
         g->cell_ids, g->cell_ids_length, g->triangle_starts, g->triangle_starts_length, v);
     hold_row(ENTRY_grid_nearest, expected.refusal, answer.refusal);
+    hold_index(ENTRY_grid_nearest, answer.refusal, expected.index, answer.index);
     hold(ENTRY_grid_nearest, expected.id == answer.id, "the vertex");
     hold(ENTRY_grid_nearest, expected.candidates == answer.candidates, "the count of candidates");
     hold(ENTRY_grid_nearest, same(expected.distance, answer.distance), "the distance");
@@ -467,6 +538,7 @@ static void call_nearest(const query *q, const query *e, vector v) {
          "an id below the count");
     hold_query(ENTRY_grid_nearest);
     count(ENTRY_grid_nearest, answer.refusal);
+    count_part(ENTRY_grid_nearest, e, v, answer.refusal, answer.index);
 }
 
 static void call_locate(const query *q, const query *e, vector v) {
@@ -479,6 +551,7 @@ static void call_locate(const query *q, const query *e, vector v) {
         g->triples_length, v);
     size_t vertices = q->positions_length / 3;
     hold_row(ENTRY_grid_locate, expected.refusal, at.refusal);
+    hold_index(ENTRY_grid_locate, at.refusal, expected.index, at.index);
     hold(ENTRY_grid_locate,
          expected.first == at.first && expected.second == at.second && expected.third == at.third,
          "the triple");
@@ -493,6 +566,7 @@ static void call_locate(const query *q, const query *e, vector v) {
          "no weight below the least");
     hold_query(ENTRY_grid_locate);
     count(ENTRY_grid_locate, at.refusal);
+    count_part(ENTRY_grid_locate, e, v, at.refusal, at.index);
 }
 
 static void call_queries(draw *d, const query *drawn, int directions) {
@@ -523,15 +597,31 @@ static void change_length(draw *d, size_t *length) {
     }
 }
 
-/* Puts one thing wrong in the cell that starts at `starts`. */
-static void damage_cell(draw *d, grid *g, uint32_t *starts, size_t vertices) {
-    size_t length = starts[1] - starts[0];
+/* Puts the starts of a part wrong, or one of them; `most` is the greatest end that fits. */
+static void damage_part(draw *d, uint32_t *starts, size_t most) {
     switch (below(d, 6)) {
     case 0: starts[1] = starts[0]; break;
     case 1: starts[0] = starts[1] + below(d, 3); break;
-    case 2: starts[1] = (uint32_t)g->cell_ids_length + below(d, 2); break;
-    case 3: starts[below(d, 2)] = wrong_start(d); break;
-    case 4: g->cell_ids_length = starts[1] - (length > 0); break;
+    case 2: starts[1] = starts[0] - (starts[0] > 0); break;
+    case 3: starts[1] = (uint32_t)most + below(d, 2); break;
+    case 4: /* falls, to a place that is past the list as a rule */
+        starts[1] = (uint32_t)most + below(d, 3);
+        starts[0] = starts[1] + 1 + below(d, 3);
+        break;
+    default: starts[below(d, 2)] = wrong_start(d); break;
+    }
+}
+
+/* Puts one thing wrong in the cell that starts at `starts`. */
+static void damage_cell(draw *d, grid *g, uint32_t *starts, size_t vertices) {
+    size_t length = starts[1] - starts[0];
+    switch (below(d, 8)) {
+    case 0:
+    case 1:
+    case 2:
+    case 3:
+    case 4: damage_part(d, starts, g->cell_ids_length); break;
+    case 5: g->cell_ids_length = starts[1] - (length > 0); break;
     default:
         if (length > 0)
             g->cell_ids[starts[0] + below(d, (uint32_t)length)] =
@@ -543,17 +633,18 @@ static void damage_cell(draw *d, grid *g, uint32_t *starts, size_t vertices) {
 static void damage_triangles(draw *d, query *q, uint32_t *starts, size_t vertices) {
     grid *g = &q->grid;
     size_t length = starts[1] - starts[0];
-    switch (below(d, 8)) {
-    case 0: starts[1] = starts[0]; break;
-    case 1: starts[0] = starts[1] + below(d, 3); break;
-    case 2: starts[1] = (uint32_t)(g->triples_length / 3) + below(d, 2); break;
-    case 3: starts[below(d, 2)] = wrong_start(d); break;
-    case 4: g->triples_length = 3 * (size_t)starts[1] - (length > 0); break;
-    case 5:
+    switch (below(d, 9)) {
+    case 0:
+    case 1:
+    case 2:
+    case 3:
+    case 4: damage_part(d, starts, g->triples_length / 3); break;
+    case 5: g->triples_length = 3 * (size_t)starts[1] - (length > 0); break;
+    case 6:
         for (size_t i = 0; i < length; i++) /* no weight of these triangles is a number */
             q->positions[3 * g->triples[3 * (starts[0] + i) + below(d, 3)]] = any_double(d);
         break;
-    case 6:
+    case 7:
         if (length > 0) /* other triangles, degenerate ones too */
             for (int i = 0; i < 3; i++)
                 g->triples[3 * (starts[0] + below(d, (uint32_t)length)) + (uint32_t)i] =

@@ -1,6 +1,6 @@
-/* Document 01 read a second time, in C. expected_NAME says what koshirga_NAME returns, and writes
- * what it leaves into the slices that it is given. It follows the document's text and nothing of
- * the proved code. */
+/* Document 01, as change request W-209 leaves it, read a second time, in C. expected_NAME says what
+ * koshirga_NAME returns, and writes what it leaves into the slices that it is given. It follows the
+ * text of both and nothing of the proved code. */
 #ifndef READING_H
 #define READING_H
 
@@ -12,20 +12,36 @@
  *   2. va, vb and vc round both products
  *   3. flags 1 and 2 both set are refused
  *   4. the first corner of greatest weight, not the last
- *   5. row 4 before row 3
+ *   5. row 4 before rows 3, 17 and 18
  *   6. the renumbering tests row 5
  *   7. row 8 before row 6
  *   8. floor in place of truncation when placing
  *   9. a query tests row 9 before the lengths of row 3
  *  10. of equal leasts the later triangle is kept
  *  11. refusal 13 leaves 0 at the ids that weren't reached
- *  12. no mistake in the reading: the engine is told of a place more than it is lent, and faults */
+ *  12. no mistake in the reading: the engine is told of a place more than it is lent, and faults
+ *  13. of several starts that fall the last is named
+ *  14. row 17 after row 18
+ *  15. the start before the one that falls is named
+ *  16. a query tests its cell for running past the ids before falling
+ *  17. row 17 is returned as 3
+ *  18. the limit of 32 before row 18
+ *  19. a location tests the vertex for running past the triples before falling
+ *  20. a query names the first fall of the cell starts, not that of its cell
+ *  21. a list over 32 carries the index of its end
+ *  22. a query tests its cell starts for row 17
+ *  23. a location names the vertex, not the start behind it
+ *  24. the renumbering gives no index
+ *  25. the builder gives no index */
 #ifndef MISREAD
 #define MISREAD 0
 #endif
-enum { MISREADINGS = 12 };
+enum { MISREADINGS = 25 };
 
-enum { FREQUENCY_MAX = 80, VERTEX_MAX = 65536, LIST_MAX = 32, ROWS = 13 };
+enum { FREQUENCY_MAX = 80, VERTEX_MAX = 65536, LIST_MAX = 32, ROWS = 18 };
+
+/* Whether a row has this number, up to ROWS: 14 to 16 are nobody's. */
+bool is_row(uint32_t number);
 
 /* A place that the walk didn't number. */
 #define UNREACHED UINT32_C(4294967295)
@@ -97,8 +113,9 @@ const lattice *lattice_of(uint32_t frequency);
 /* filled: positions, starts and entries; ids beside them. */
 uint32_t expected_lattice(uint32_t frequency, mesh *filled, uint16_t *ids, size_t ids_length);
 
-/* The first of rows 2 to 4 that holds, then row 5 where it is asked for; 0 where none does. */
-uint32_t mesh_row(const mesh *m, bool with_row_5);
+/* The first of rows 2, 3 (length), 17, 18, 3 (a list over 32) and 4 that holds, then row 5 where it
+ * is asked for; 0 where none does. With row 18 the place of the start that falls, else 0. */
+koshirga_verdict_answer mesh_row(const mesh *m, bool with_row_5);
 
 koshirga_walk_answer expected_walk(const mesh *m, uint32_t *order, size_t order_length,
                                    uint32_t *queue, size_t queue_length);
@@ -106,9 +123,10 @@ koshirga_walk_answer expected_walk(const mesh *m, uint32_t *order, size_t order_
 /* The places that each scratch slice of a renumbering needs; the mesh passes its rows. */
 size_t renumber_scratch(const mesh *m, size_t values_length);
 
-uint32_t expected_renumber(mesh *m, double *values, size_t values_length,
-                           const uint32_t *permutation, size_t permutation_length,
-                           size_t entries_per_vertex, const size_t scratch_lengths[5]);
+koshirga_verdict_answer expected_renumber(mesh *m, double *values, size_t values_length,
+                                          const uint32_t *permutation, size_t permutation_length,
+                                          size_t entries_per_vertex,
+                                          const size_t scratch_lengths[5]);
 
 uint32_t grid_side(size_t count);
 

@@ -13,7 +13,20 @@
 static const char *const NAMES[ENTRIES] = {ENTRY_POINTS(NAME)};
 #undef NAME
 
+/* The calls that read starts, as columns. Which of them can meet a way: a bit each, the first the
+ * lowest. */
+enum { COLUMNS = 5, WHOLE = 7, QUERIES = 24, LOCATION = 16 };
+static const entry WITH_STARTS[COLUMNS] = {ENTRY_walk, ENTRY_renumber, ENTRY_build_grid,
+                                           ENTRY_grid_nearest, ENTRY_grid_locate};
+#define WAY(name, calls, text) {calls, text},
+static const struct {
+    unsigned calls;
+    const char *text;
+} WAYS_OF[WAY_COUNT] = {WAYS(WAY)};
+#undef WAY
+
 static uint64_t calls[ENTRIES][ROWS + 1];
+static uint64_t ways[ENTRIES][WAY_COUNT];
 static uint64_t all_calls, inputs, facts;
 static bool built[FREQUENCY_MAX + 1];
 static uint64_t calls_limit = UINT64_MAX;
@@ -26,10 +39,12 @@ static double seconds_of(clockid_t clock) {
 }
 
 void count(entry of, uint32_t row) {
-    hold(of, row <= ROWS, "a refusal that no row has");
+    hold(of, is_row(row), "a refusal that no row has");
     calls[of][row]++;
     all_calls++;
 }
+
+void count_way(entry of, way met) { ways[of][met]++; }
 
 void count_lattice(uint32_t frequency) { built[frequency] = true; }
 
@@ -53,6 +68,17 @@ void hold_row(entry of, uint32_t expected, uint32_t returned) {
     abort();
 }
 
+void hold_index(entry of, uint32_t row, size_t expected, size_t returned) {
+    hold(of, (row == 18) == (returned > 0), "an index with row 18 alone");
+    facts++;
+    if (expected == returned)
+        return;
+    printf("koshirga_%s differs after %" PRIu64 " calls: index %zu expected, index %zu returned\n",
+           NAMES[of], all_calls, expected, returned);
+    fflush(stdout);
+    abort();
+}
+
 void tally_begin(void) {
     const char *limit = getenv("KOSHIRGA_FUZZ_CALLS");
     if (limit)
@@ -70,44 +96,84 @@ static void print_count(uint64_t n) {
         printf("         .");
 }
 
-/* A run of any size calls each entry point. */
-static const char *uncalled(void) {
+/* A run of any size calls each entry point. Says which it didn't, and gives how many. */
+static int print_uncalled(void) {
+    int found = 0;
     for (int of = 0; of < ENTRIES; of++) {
         uint64_t sum = 0;
-        for (int row = 0; row <= ROWS; row++)
+        for (uint32_t row = 0; row <= ROWS; row++)
             sum += calls[of][row];
-        if (!sum)
-            return NAMES[of];
+        if (!sum) {
+            printf("koshirga_%s was never called: the run is too short\n", NAMES[of]);
+            found++;
+        }
     }
-    return NULL;
+    return found;
 }
 
-static void print_table(double seconds) {
+/* The same for the ways that weren't met. */
+static int print_unmet(void) {
+    int found = 0;
+    for (int w = 0; w < WAY_COUNT; w++)
+        for (int column = 0; column < COLUMNS; column++)
+            if (WAYS_OF[w].calls >> column & 1 && !ways[WITH_STARTS[column]][w]) {
+                printf("koshirga_%s never met \"%s\": the run is too short\n",
+                       NAMES[WITH_STARTS[column]], WAYS_OF[w].text);
+                found++;
+            }
+    return found;
+}
+
+static void print_rows(void) {
     uint64_t rows[ROWS + 1] = {0};
     printf("\n%-21s  %9s %9s", "entry point", "calls", "accepted");
-    for (int row = 1; row <= ROWS; row++)
-        printf("    row %2d", row);
+    for (uint32_t row = 1; row <= ROWS; row++)
+        if (is_row(row))
+            printf("    row %2" PRIu32, row);
     printf("\n");
     for (int of = 0; of < ENTRIES; of++) {
         uint64_t sum = 0;
-        for (int row = 0; row <= ROWS; row++) {
+        for (uint32_t row = 0; row <= ROWS; row++) {
             sum += calls[of][row];
             rows[row] += calls[of][row];
         }
         printf("%-21s ", NAMES[of]);
         print_count(sum);
-        for (int row = 0; row <= ROWS; row++)
-            print_count(calls[of][row]);
+        for (uint32_t row = 0; row <= ROWS; row++)
+            if (is_row(row))
+                print_count(calls[of][row]);
         printf("\n");
     }
     printf("%-21s ", "all");
     print_count(all_calls);
-    for (int row = 0; row <= ROWS; row++)
-        print_count(rows[row]);
+    for (uint32_t row = 0; row <= ROWS; row++)
+        if (is_row(row))
+            print_count(rows[row]);
+    printf("\n");
+}
+
+static void print_ways(void) {
+    printf("\n%-40s", "starts refused, by row");
+    for (int column = 0; column < COLUMNS; column++)
+        printf(" %12s", NAMES[WITH_STARTS[column]]);
+    printf("\n");
+    for (int w = 0; w < WAY_COUNT; w++) {
+        printf("%-40s", WAYS_OF[w].text);
+        for (int column = 0; column < COLUMNS; column++) {
+            printf("   ");
+            print_count(ways[WITH_STARTS[column]][w]);
+        }
+        printf("\n");
+    }
+}
+
+static void print_tables(double seconds) {
+    print_rows();
+    print_ways();
     int frequencies = 0;
     for (int n = 1; n <= FREQUENCY_MAX; n++)
         frequencies += built[n];
-    printf("\n\nlattices of %d of the %d frequencies\n", frequencies, FREQUENCY_MAX);
+    printf("\nlattices of %d of the %d frequencies\n", frequencies, FREQUENCY_MAX);
     printf("%" PRIu64 " calls from %" PRIu64 " inputs, %.0f s (%.0f s of processor time)\n",
            all_calls, inputs, seconds, seconds_of(CLOCK_PROCESS_CPUTIME_ID));
     printf("%" PRIu64 " facts held, 0 faults, 0 differences\n", facts);
@@ -118,9 +184,8 @@ void tally_input(void) {
     double seconds = seconds_of(CLOCK_MONOTONIC) - begun;
     if (all_calls < calls_limit && seconds < seconds_limit)
         return;
-    print_table(seconds);
-    if (uncalled())
-        printf("koshirga_%s was never called: the run is too short\n", uncalled());
+    print_tables(seconds);
+    int missed = print_uncalled() + print_unmet();
     fflush(stdout);
-    _Exit(uncalled() ? 1 : 0); /* libFuzzer takes exit for a fault */
+    _Exit(missed ? 1 : 0); /* libFuzzer takes exit for a fault */
 }

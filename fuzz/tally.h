@@ -1,9 +1,10 @@
-/* Counts calls by entry point and row, and ends the run: with a table when the limit is reached, or
+/* Counts calls by entry point and row, and ends the run: with tables when the limit is reached, or
  * at the first difference. */
 #ifndef TALLY_H
 #define TALLY_H
 
 #include <stdbool.h>
+#include <stddef.h>
 #include <stdint.h>
 
 /* Every function of koshirga.h, in its order. */
@@ -18,8 +19,47 @@
 typedef enum entry { ENTRY_POINTS(ENTRY) ENTRIES } entry;
 #undef ENTRY
 
+/* Ways in which starts are refused, each with the calls that can meet it: those that read a whole
+ * mesh, both queries, or the location alone. A run must meet each way in each of its calls. In a
+ * whole mesh the start at 1 can't fall alone: the one before it would not be 0, and that is 17. */
+#define WAYS(X)                                                                                    \
+    X(LENGTH, WHOLE, "3: wrong length")                                                            \
+    X(LENGTH_AND_FALL, WHOLE, "3: wrong length, and a start falls")                                \
+    X(SPAN_FIRST, WHOLE, "17: the first start isn't 0")                                            \
+    X(SPAN_BELOW, WHOLE, "17: the last is below the entry count")                                  \
+    X(SPAN_ABOVE, WHOLE, "17: the last is above the entry count")                                  \
+    X(SPAN_AND_SECOND, WHOLE, "17: and the start at 1 falls")                                      \
+    X(SPAN_AND_FALL, WHOLE, "17: and a later start falls")                                         \
+    X(FALL_FIRST, WHOLE, "18: at 2, the first that can fall")                                      \
+    X(FALL_MIDDLE, WHOLE, "18: between")                                                           \
+    X(FALL_LAST, WHOLE, "18: at the last start")                                                   \
+    X(FALL_AGAIN, WHOLE, "18: and a later start falls")                                            \
+    X(FALL_AND_LONG, WHOLE, "18: and a list is over 32")                                           \
+    X(LONG_LIST, WHOLE, "3: a list over 32")                                                       \
+    X(CELL_LENGTH, QUERIES, "3: wrong length of cell starts")                                      \
+    X(VERTEX_LENGTH, QUERIES, "3: wrong length of triangle starts")                                \
+    X(CELL_FIRST, QUERIES, "18: in the cell, at 1")                                                \
+    X(CELL_MIDDLE, QUERIES, "18: in the cell, between")                                            \
+    X(CELL_LAST, QUERIES, "18: in the cell, at the last start")                                    \
+    X(CELL_AND_PAST, QUERIES, "18: in the cell, and past the ids")                                 \
+    X(CELL_NOT_FIRST, QUERIES, "18: in the cell, behind another fall")                             \
+    X(PAST_IDS, QUERIES, "3: past the ids")                                                        \
+    X(VERTEX_FIRST, LOCATION, "18: at the vertex, at 1")                                           \
+    X(VERTEX_MIDDLE, LOCATION, "18: at the vertex, between")                                       \
+    X(VERTEX_LAST, LOCATION, "18: at the vertex, at the last start")                               \
+    X(VERTEX_AND_PAST, LOCATION, "18: at the vertex, and past the triples")                        \
+    X(VERTEX_NOT_FIRST, LOCATION, "18: at the vertex, behind another fall")                        \
+    X(PAST_TRIPLES, LOCATION, "3: past the triples")
+
+#define WAY(name, calls, text) WAY_##name,
+typedef enum way { WAYS(WAY) WAY_COUNT } way;
+#undef WAY
+
 /* The call was answered by this row; 0: accepted. */
 void count(entry of, uint32_t row);
+
+/* The call was refused in this way; an answer may have several. */
+void count_way(entry of, way met);
 
 /* The lattice of this frequency, from 1 to 80, was built. */
 void count_lattice(uint32_t frequency);
@@ -30,11 +70,14 @@ void hold(entry of, bool fact, const char *what);
 /* The number that a call returned beside the one that it should. */
 void hold_row(entry of, uint32_t expected, uint32_t returned);
 
+/* The index beside it; with every number but 18 it has to be 0. */
+void hold_index(entry of, uint32_t row, size_t expected, size_t returned);
+
 /* Reads the limits: KOSHIRGA_FUZZ_CALLS and KOSHIRGA_FUZZ_SECONDS, whichever comes first. */
 void tally_begin(void);
 
-/* To be called after each input. Where a limit is reached it prints the table and ends the program,
- * with status 0; 1 where an entry point wasn't called. */
+/* To be called after each input. Where a limit is reached it prints the tables and ends the
+ * program, with status 0; 1 where an entry point wasn't called or a way not met. */
 void tally_input(void);
 
 #endif

@@ -1,5 +1,6 @@
 /* Koshirga: the calls of the archive libc_api.a, which `rt staticlib c_api` makes. A whole program
- * that uses them is examples/balloon.c; docs/DATASHEET.md says what every call does, step by step.
+ * that uses them is examples/balloon.c, and examples/exporter.c has a mesh that is refused;
+ * docs/DATASHEET.md says what every call does, step by step.
  *
  * Every function returns for every argument and keeps no state. All floating-point data is
  * binary64. Each operation is rounded once, by the clauses of IEEE 754-2019 that the function's
@@ -12,8 +13,9 @@
  *
  * Data.
  *   Mesh: 1 to 65536 vertices with ids from 0. positions holds x, y and z of each in turn. starts
- *     has a place a vertex and one more: the neighbours of vertex v are entries[starts[v]] up to,
- *     and without, entries[starts[v + 1]], at most 32 of them.
+ *     has a place a vertex and one more, begins at 0, never falls and ends at the entry count: the
+ *     neighbours of vertex v are entries[starts[v]] up to, and without, entries[starts[v + 1]], at
+ *     most 32 of them.
  *   Lattice: the mesh that a frequency n from 1 to 80 gives, each of the icosahedron's twenty faces
  *     (its master faces) cut into n^2 triangles and put on the unit sphere.
  *   Id table: the ids of a lattice's points face by face, (n + 1)(n + 2)/2 slots each. The point
@@ -39,7 +41,7 @@
 #include <stdint.h>
 
 #define KOSHIRGA_VERSION_MAJOR 0
-#define KOSHIRGA_VERSION_MINOR 1
+#define KOSHIRGA_VERSION_MINOR 2
 #define KOSHIRGA_VERSION_PATCH 0
 
 #ifdef __cplusplus
@@ -50,15 +52,28 @@ extern "C" {
 
 /* One of these is a call's result, or is in the first field of its answer, `refusal`. A call is
  * refused by the first of its rows that holds; its comment names them by number, in their order.
- * All other fields are then 0, and no slice is changed, but for KOSHIRGA_UNREACHED. Later versions
- * may add rows: take every number but KOSHIRGA_ACCEPTED for a refusal, also one that isn't here. */
+ * All other fields are then 0, but for the index of KOSHIRGA_STARTS_FALL, and no slice is changed,
+ * but for KOSHIRGA_UNREACHED. Later versions may add rows: take every number but KOSHIRGA_ACCEPTED
+ * for a refusal, also one that isn't here.
+ *
+ * `index`, the last field of some answers, belongs to KOSHIRGA_STARTS_FALL alone: the place in the
+ * start list, counted from 0, of the first start that is below the one before it, so at least 1.
+ * The starts 0, 5, 3, 2 have 2. With every other number, KOSHIRGA_ACCEPTED among them, it is 0.
+ *
+ * The order for a mesh is 2, 3, 17, 18, 3, 4. Row 3 stands there twice: a wrong length comes before
+ * 17 and 18, which read the whole list, and a neighbour list over 32 behind them, as it has a
+ * length only where no start falls. A query tests both start lists for their lengths (3), and then
+ * only the part that it reads: whether it falls (18), whether it runs past its ids or triples (3).
+ * Its index is 1 more than the cell or the vertex of that part, whatever falls before. No query
+ * returns 17. */
 enum koshirga_refusal {
     KOSHIRGA_ACCEPTED = 0,
     /* The frequency is below 1 or above 80. */
     KOSHIRGA_FREQUENCY = 1,
     /* No vertex, over 65536, positions not three a vertex; or a side that isn't the count's. */
     KOSHIRGA_COUNT = 2,
-    /* Starts: wrong length, not from 0, falling, past or short of their list; or a list over 32. */
+    /* A start list has a wrong length; or a neighbour list is over 32; or, in a query, the part
+     * that is read runs past cell_ids or triples. */
     KOSHIRGA_STARTS = 3,
     /* An id is not below the vertex count. */
     KOSHIRGA_ID = 4,
@@ -79,7 +94,13 @@ enum koshirga_refusal {
     /* No triangle at the nearest vertex has a least weight above minus infinity. */
     KOSHIRGA_NO_TRIANGLE = 12,
     /* The walk doesn't reach a vertex: the mesh is in several parts. */
-    KOSHIRGA_UNREACHED = 13
+    KOSHIRGA_UNREACHED = 13,
+    /* The starts don't span the entries: the first isn't 0, or the last isn't entries_length. */
+    KOSHIRGA_STARTS_SPAN = 17,
+    /* A start is below the one before it: starts[index] < starts[index - 1], so that the neighbours
+     * of vertex index - 1 would end before they begin. In a query likewise cell_starts, or
+     * triangle_starts. */
+    KOSHIRGA_STARTS_FALL = 18
 };
 
 /* ---- binary64 */
@@ -177,12 +198,18 @@ double koshirga_least_weight(koshirga_weights weights);
 
 typedef struct koshirga_walk_answer {
     uint32_t refusal, entries_read;
+    size_t index; /* that of row 18 */
 } koshirga_walk_answer;
 
+typedef struct koshirga_verdict_answer {
+    uint32_t refusal;
+    size_t index; /* that of row 18 */
+} koshirga_verdict_answer;
+
 /* Breadth first from vertex 0. order gets the new id at each old one, queue the old ids in that
- * order; each needs a place a vertex, and surplus is untouched. Rows 2, 3, 4, 8, 13; 13 leaves
- * reached ids numbered, 4294967295 for others and the reached ids in queue, the other rows change
- * nothing. */
+ * order; each needs a place a vertex, and surplus is untouched. Rows 2, 3, 17, 18, 3, 4, 8, 13; 13
+ * leaves reached ids numbered, 4294967295 for others and the reached ids in queue, the other rows
+ * change nothing. */
 koshirga_walk_answer koshirga_walk(const double *positions, size_t positions_length,
                                    const uint32_t *starts, size_t starts_length,
                                    const uint16_t *entries, size_t entries_length,
@@ -192,19 +219,19 @@ koshirga_walk_answer koshirga_walk(const double *positions, size_t positions_len
 /* Renumbers mesh and data by a permutation that holds the new id at each old one, such as a walk's
  * order. values has entries_per_vertex entries a vertex, 1 or the vertex count; a tail shorter than
  * a slab is untouched. The last five slices are scratch, each at least as long as the longest slice
- * before them. An id table keeps the lattice's own ids. Takes over 64 KiB of stack. Gives a
- * refusal's number or 0. Rows 2, 3, 4, 6, 7, 8 change nothing. */
-uint32_t koshirga_renumber(double *positions, size_t positions_length,
-                           uint32_t *starts, size_t starts_length,
-                           uint16_t *entries, size_t entries_length,
-                           double *values, size_t values_length,
-                           const uint32_t *permutation, size_t permutation_length,
-                           size_t entries_per_vertex,
-                           uint32_t *sources, size_t sources_length,
-                           uint32_t *old_starts, size_t old_starts_length,
-                           uint16_t *old_entries, size_t old_entries_length,
-                           uint8_t *done, size_t done_length,
-                           double *held, size_t held_length);
+ * before them. An id table keeps the lattice's own ids. Takes over 64 KiB of stack. Rows 2, 3, 17,
+ * 18, 3, 4, 6, 7, 8 change nothing. */
+koshirga_verdict_answer koshirga_renumber(double *positions, size_t positions_length,
+                                          uint32_t *starts, size_t starts_length,
+                                          uint16_t *entries, size_t entries_length,
+                                          double *values, size_t values_length,
+                                          const uint32_t *permutation, size_t permutation_length,
+                                          size_t entries_per_vertex,
+                                          uint32_t *sources, size_t sources_length,
+                                          uint32_t *old_starts, size_t old_starts_length,
+                                          uint16_t *old_entries, size_t old_entries_length,
+                                          uint8_t *done, size_t done_length,
+                                          double *held, size_t held_length);
 
 /* ---- analytic location */
 
@@ -254,6 +281,7 @@ uint32_t koshirga_lattice(uint32_t frequency, double *positions, size_t position
 
 typedef struct koshirga_build_answer {
     uint32_t refusal, side;
+    size_t index; /* that of row 18 */
 } koshirga_build_answer;
 
 /* Writes the cube grid of a mesh. Its side g is the greater of 2 and
@@ -271,7 +299,7 @@ typedef struct koshirga_build_answer {
  * was seen for all 80 frequencies; where room is short, row 8 refuses. Surplus is untouched; the
  * last start of either list says how many ids or triples there are, and queries take the slices cut
  * to these lengths. Vertices are placed by division, fused multiply-add and product (IEEE 754-2019,
- * 5.4.1 and 4.3.1) and conversion (5.8). Rows 2, 3, 4, 5, 8 change nothing. */
+ * 5.4.1 and 4.3.1) and conversion (5.8). Rows 2, 3, 17, 18, 3, 4, 5, 8 change nothing. */
 koshirga_build_answer koshirga_build_grid(const double *positions, size_t positions_length,
                                           const uint32_t *starts, size_t starts_length,
                                           const uint16_t *entries, size_t entries_length,
@@ -285,18 +313,20 @@ koshirga_build_answer koshirga_build_grid(const double *positions, size_t positi
 typedef struct koshirga_nearest_answer {
     uint32_t refusal, id, candidates;
     double distance; /* SQUARED, from the normalised direction to the position as it is stored */
+    size_t index;    /* that of row 18: the direction's cell + 1 */
 } koshirga_nearest_answer;
 
 typedef struct koshirga_located_answer {
     uint32_t refusal, first, second, third;
     double u, v, w, least; /* the weights of first, second and third, and the least of them */
+    size_t index;          /* that of row 18: the direction's cell + 1, or the nearest vertex + 1 */
 } koshirga_located_answer;
 
 /* The first candidate of the direction's cell with the least squared distance in total order (IEEE
  * 754-2019, 5.10), and how many candidates were compared. It is the nearest of the cell and not
  * always of the mesh. The direction is normalised first; that and the distances are rounded as the
  * vector calls round, and the cell is found by division, fused multiply-add and product (IEEE
- * 754-2019, 5.4.1 and 4.3.1) and conversion (5.8). Rows 2, 3, 9, 3, 11, 4. */
+ * 754-2019, 5.4.1 and 4.3.1) and conversion (5.8). Rows 2, 3, 9, then in the cell 18, 3, 11, 4. */
 koshirga_nearest_answer koshirga_grid_nearest(const double *positions, size_t positions_length,
                                               uint32_t side, const uint32_t *cell_starts,
                                               size_t cell_starts_length, const uint16_t *cell_ids,
@@ -307,7 +337,9 @@ koshirga_nearest_answer koshirga_grid_nearest(const double *positions, size_t po
 
 /* The triangle at the nearest vertex whose least weight is the greatest, the first of equals. The
  * weights are those of koshirga_projected_barycentric for the normalised direction, rounded as
- * there (IEEE 754-2019, 5.4.1 and 4.3.1). Rows as above, then 3, 4, 12. */
+ * there (IEEE 754-2019, 5.4.1 and 4.3.1). Rows as above, then at the nearest vertex 18, 3, 4, 12.
+ * Which start list falls, 18 doesn't say: cell_starts where koshirga_grid_nearest is refused too,
+ * and triangle_starts where it isn't. */
 koshirga_located_answer koshirga_grid_locate(const double *positions, size_t positions_length,
                                              uint32_t side, const uint32_t *cell_starts,
                                              size_t cell_starts_length, const uint16_t *cell_ids,

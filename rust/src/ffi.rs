@@ -8,6 +8,7 @@ use crate::{Grid, GridMut, Mesh, MeshMut, Scratch, Vector3, Weights};
 pub struct BuildAnswer {
     pub refusal: u32,
     pub side: u32,
+    pub index: usize,
 }
 
 #[repr(C)]
@@ -33,6 +34,13 @@ pub struct VertexAnswer {
 pub struct WalkAnswer {
     pub refusal: u32,
     pub entries_read: u32,
+    pub index: usize,
+}
+
+#[repr(C)]
+pub struct VerdictAnswer {
+    pub refusal: u32,
+    pub index: usize,
 }
 
 #[repr(C)]
@@ -41,6 +49,7 @@ pub struct NearestAnswer {
     pub id: u32,
     pub candidates: u32,
     pub distance: f64,
+    pub index: usize,
 }
 
 #[repr(C)]
@@ -49,6 +58,7 @@ pub struct LocatedAnswer {
     pub triple: [u32; 3],
     pub weights: Weights,
     pub least: f64,
+    pub index: usize,
 }
 
 unsafe extern "C" {
@@ -113,7 +123,7 @@ unsafe extern "C" {
         done_length: usize,
         held: *mut f64,
         held_length: usize,
-    ) -> u32;
+    ) -> VerdictAnswer;
 
     fn koshirga_lattice(
         frequency: u32,
@@ -221,7 +231,7 @@ pub fn renumber(
     permutation: &[u32],
     entries_per_vertex: usize,
     scratch: Scratch,
-) -> u32 {
+) -> VerdictAnswer {
     let MeshMut {
         positions,
         starts,
@@ -367,7 +377,9 @@ pub fn grid_locate(grid: Grid, direction: Vector3) -> LocatedAnswer {
 
 #[cfg(test)]
 mod tests {
+    use super::*;
     use std::collections::BTreeSet;
+    use std::mem::{offset_of, size_of};
 
     /// The names `koshirga_...` that stand before an opening bracket, with `before` in front.
     fn functions(text: &'static str, before: &str) -> BTreeSet<&'static str> {
@@ -395,6 +407,52 @@ mod tests {
         let source = include_str!("ffi.rs");
         assert_eq!(declared, functions(source, "fn "));
         assert!(declared.contains("koshirga_grid_locate"), "{declared:?}");
+    }
+
+    /// The size of the header's `koshirga_..._answer`, and the place of its field `index`, as the
+    /// System V convention lays the fields out.
+    fn header_layout(answer: &str) -> (usize, Option<usize>) {
+        let header = include_str!("../../include/koshirga.h");
+        let head = format!("\ntypedef struct koshirga_{answer}_answer {{\n");
+        let (_, rest) = header.split_once(&head).unwrap();
+        let (fields, _) = rest.split_once("\n}").unwrap();
+        let (mut end, mut align, mut index) = (0_usize, 1, None);
+        for line in fields.lines() {
+            let (declared, _) = line.split_once(';').unwrap();
+            let (kind, names) = declared.trim().split_once(' ').unwrap();
+            let width = match kind {
+                "uint32_t" => 4,
+                "double" | "size_t" => 8,
+                other => panic!("{other}"),
+            };
+            align = width.max(align);
+            for name in names.split(", ") {
+                let start = end.next_multiple_of(width);
+                if name == "index" {
+                    index = Some(start);
+                }
+                end = start + width;
+            }
+        }
+        (end.next_multiple_of(align), index)
+    }
+
+    #[test]
+    fn answers_are_laid_out_as_in_the_header() {
+        macro_rules! with_index {
+            ($answer:ident) => {
+                (size_of::<$answer>(), Some(offset_of!($answer, index)))
+            };
+        }
+        assert_eq!(header_layout("walk"), with_index!(WalkAnswer));
+        assert_eq!(header_layout("verdict"), with_index!(VerdictAnswer));
+        assert_eq!(header_layout("build"), with_index!(BuildAnswer));
+        assert_eq!(header_layout("nearest"), with_index!(NearestAnswer));
+        assert_eq!(header_layout("located"), with_index!(LocatedAnswer));
+        assert_eq!(header_layout("face"), (size_of::<FaceAnswer>(), None));
+        assert_eq!(header_layout("vertex"), (size_of::<VertexAnswer>(), None));
+        let analytic = size_of::<AnalyticAnswer>();
+        assert_eq!(header_layout("analytic"), (analytic, None));
     }
 
     /// The header's version is this crate's.

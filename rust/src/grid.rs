@@ -59,12 +59,13 @@ pub struct GridMut<'a> {
 /// Writes the grid of a mesh and gives its side g: 6g² + 1 cell starts, the cells' ids, a triangle
 /// start a vertex and one more, and the triples. Before a query the slices are cut to these
 /// lengths: as many cell ids as the last cell start says, and three ids for each triple that the
-/// last triangle start counts. Surplus places are untouched. Rows 2, 3, 4, 5 and 8 change nothing.
+/// last triangle start counts. Surplus places are untouched. Rows 2, 3, 17, 18, 3, 4, 5 and 8
+/// change nothing.
 ///
 /// [`FaceGrid::new`](crate::FaceGrid::new) brings the slices itself, and cuts them.
 pub fn build_grid(mesh: Mesh, grid: GridMut) -> Result<u32, Refusal> {
     let answer = ffi::build_grid(mesh, grid);
-    Refusal::check(answer.refusal)?;
+    Refusal::check_at(answer.refusal, answer.index)?;
     Ok(answer.side)
 }
 
@@ -72,10 +73,10 @@ impl Grid<'_> {
     /// The first candidate of the direction's cell with the least squared distance in total order
     /// (IEEE 754-2019, 5.10). The direction is normalised first; that and the distances are rounded
     /// as [`Vector3`]'s operations are (5.4.1 and 4.3.1). The triples are not read. Rows 2, 3, 9,
-    /// then of the cell 3, 11 and 4 refuse, in this order.
+    /// then of the cell 18, 3, 11 and 4 refuse, in this order.
     pub fn find_nearest_vertex(&self, direction: Vector3) -> Result<Nearest, Refusal> {
         let answer = ffi::grid_nearest(*self, direction);
-        Refusal::check(answer.refusal)?;
+        Refusal::check_at(answer.refusal, answer.index)?;
         Ok(Nearest {
             id: answer.id,
             candidates: answer.candidates,
@@ -84,10 +85,12 @@ impl Grid<'_> {
     }
 
     /// The triangle at the nearest vertex whose least weight is the greatest, the first of equals.
-    /// Rows as for the nearest vertex, then at that vertex 3, 4 and 12.
+    /// Rows as for the nearest vertex, then at that vertex 18, 3, 4 and 12. Which start list falls,
+    /// 18 doesn't say: the cell starts where [`Grid::find_nearest_vertex`] is refused too, and the
+    /// triangle starts where it isn't.
     pub fn locate(&self, direction: Vector3) -> Result<Located, Refusal> {
         let answer = ffi::grid_locate(*self, direction);
-        Refusal::check(answer.refusal)?;
+        Refusal::check_at(answer.refusal, answer.index)?;
         Ok(Located {
             triple: answer.triple,
             weights: answer.weights,
@@ -127,7 +130,7 @@ pub struct FaceGrid<'a> {
 }
 
 impl<'a> FaceGrid<'a> {
-    /// The grid of a mesh. Rows 2, 3, 4 and 5 refuse.
+    /// The grid of a mesh. Rows 2, 3, 17, 18, 3, 4 and 5 refuse, in this order.
     pub fn new(mesh: Mesh<'a>) -> Result<Self, Refusal> {
         // What is refused needs no more room than what is accepted.
         let count = (mesh.positions.len() / 3).min(GREATEST_COUNT);
@@ -330,7 +333,7 @@ mod tests {
         assert_eq!(refused(&[], &[0], &[]), Some(2));
         assert_eq!(refused(&vec![1.0; 3 * 65_537], &[0], &[]), Some(2));
         assert_eq!(refused(&POSITIONS, &[], &[]), Some(3));
-        assert_eq!(refused(&POSITIONS, &[0, u32::MAX, 0, 0], &[]), Some(3));
+        assert_eq!(refused(&POSITIONS, &[0, u32::MAX, 0, 0], &[]), Some(18));
         assert_eq!(refused(&POSITIONS, &[0, 1, 1, 1], &[3]), Some(4));
         assert_eq!(refused(&[0.0; 9], &[0; 4], &[]), Some(5));
         assert_eq!(refused(&POSITIONS, &[0; 4], &[]), None);

@@ -43,8 +43,8 @@ pub struct Scratch<'a> {
 /// The walk, breadth first from vertex 0, lists in stored order: `order` gets the new id at each
 /// old one, `queue` the old ids in that order. Gives the count of entries read.
 ///
-/// Rows 2, 3, 4 and 8 (a place a vertex in each slice) change nothing. Row 13 leaves the reached
-/// ids numbered, `u32::MAX` for the others, and the reached ids in the queue.
+/// Rows 2, 3, 17, 18, 3, 4 and 8 (a place a vertex in each slice) change nothing. Row 13 leaves the
+/// reached ids numbered, `u32::MAX` for the others, and the reached ids in the queue.
 ///
 /// [`MeshData::bfs_vertex_permutation`](crate::MeshData::bfs_vertex_permutation) brings the slices
 /// itself.
@@ -54,14 +54,14 @@ pub fn bfs_vertex_permutation(
     queue: &mut [u32],
 ) -> Result<u32, Refusal> {
     let answer = ffi::walk(mesh, order, queue);
-    Refusal::check(answer.refusal)?;
+    Refusal::check_at(answer.refusal, answer.index)?;
     Ok(answer.entries_read)
 }
 
 /// Renumbers mesh and data by a permutation that holds the new id at each old one. The data has 1
 /// or as many entries a vertex as there are vertices, and in the second form both indices move; a
-/// tail shorter than a slab is untouched. Rows 2, 3, 4, 6, 7 and 8 change nothing. An id table is
-/// not renumbered: it keeps the lattice's own ids. The call takes over 64 KiB of stack.
+/// tail shorter than a slab is untouched. Rows 2, 3, 17, 18, 3, 4, 6, 7 and 8 change nothing. An id
+/// table is not renumbered: it keeps the lattice's own ids. The call takes over 64 KiB of stack.
 ///
 /// [`MeshData::apply_vertex_permutation`](crate::MeshData::apply_vertex_permutation) brings the
 /// scratch itself.
@@ -72,8 +72,8 @@ pub fn apply_vertex_permutation(
     entries_per_vertex: usize,
     scratch: Scratch,
 ) -> Result<(), Refusal> {
-    let code = ffi::renumber(mesh, values, permutation, entries_per_vertex, scratch);
-    Refusal::check(code)
+    let answer = ffi::renumber(mesh, values, permutation, entries_per_vertex, scratch);
+    Refusal::check_at(answer.refusal, answer.index)
 }
 
 /// What an accepted walk gives.

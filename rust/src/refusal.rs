@@ -2,15 +2,15 @@
 
 use std::fmt;
 
-/// A refusal, by the number of its row. A call is refused by the first row that holds, in the order
-/// that the section "Refusals" of `docs/DATASHEET.md` gives for each call. Later versions may add
-/// rows.
+/// A refusal, by the number of its row, and of row 18 an [index](Refusal::index). A call is refused
+/// by the first row that holds, in the order that the section "Refusals" of `docs/DATASHEET.md`
+/// gives for each call. Later versions may add rows.
 ///
 /// | Row | What was checked | When it refuses |
 /// |---:|---|---|
 /// | 1 | frequency | it is below 1 or above 80 |
 /// | 2 | mesh | there is no vertex or more than 65,536, the positions are not three a vertex, or the grid's side is not that of the count |
-/// | 3 | mesh | the starts have a wrong length, don't begin at 0, fall, don't end at the entry count or run past their list, or a neighbour list is over 32 |
+/// | 3 | mesh | a start list has a wrong length, a neighbour list is over 32, or the part that a query reads runs past its ids or triples |
 /// | 4 | mesh | an id is not below the vertex count |
 /// | 5 | mesh | a position has a component that is not finite, or a length below 2^-20 or above 2^20 |
 /// | 6 | renumbering | the permutation has a wrong length or is no permutation of the ids |
@@ -21,9 +21,16 @@ use std::fmt;
 /// | 11 | cell | no vertex is placed there |
 /// | 12 | adjacent triangles | none has a least weight above minus infinity |
 /// | 13 | walk | a vertex is not reached |
+/// | 17 | mesh | the first start is not 0, or the last is not the number of entries |
+/// | 18 | mesh | a start is below the one before it |
 ///
-/// Rows 3 and 4 also refuse a grid's starts and ids in a query. Rows 5 and 9 test the squared
-/// length as it is computed: from 2^-40 to 2^40 is accepted, ends included.
+/// The order for a mesh is 2, 3, 17, 18, 3, 4. Row 3 stands there twice: a wrong length comes
+/// before 17 and 18, which read the whole list, and a neighbour list over 32 behind them, as it has
+/// a length only where no start falls.
+///
+/// Rows 3, 4 and 18 also refuse a grid's starts and ids in a query, which reads one part of a list;
+/// 17 does not. Rows 5 and 9 test the squared length as it is computed: from 2^-40 to 2^40 is
+/// accepted, ends included.
 ///
 /// ```
 /// use koshirga::Vector3;
@@ -36,20 +43,47 @@ use std::fmt;
 #[derive(Clone, Copy, Debug, PartialEq, Eq)]
 pub struct Refusal {
     number: u32,
+    index: usize,
 }
 
 impl Refusal {
     /// An export's answer: 0 where the call was accepted, or else the refusal's number.
     pub(crate) fn check(code: u32) -> Result<(), Refusal> {
+        Refusal::check_at(code, 0)
+    }
+
+    /// The same for an answer that has an index, 0 but for row 18.
+    pub(crate) fn check_at(code: u32, index: usize) -> Result<(), Refusal> {
         match code {
             0 => Ok(()),
-            number => Err(Refusal { number }),
+            number => Err(Refusal { number, index }),
         }
     }
 
     /// The row's number.
     pub fn number(self) -> u32 {
         self.number
+    }
+
+    /// Of row 18, and of no other, the place of the start that is below the one before it, counted
+    /// from 0 in its list. In a mesh it is the first such start. In a query it is the one that ends
+    /// the part read: 1 more than the direction's cell, in the cell starts, or than the nearest
+    /// vertex, in the triangle starts.
+    ///
+    /// ```
+    /// use koshirga::MeshData;
+    ///
+    /// let mesh = MeshData {
+    ///     positions: vec![1.0, 0.0, 0.0, 0.0, 1.0, 0.0, 0.0, 0.0, 1.0],
+    ///     starts: vec![0, 3, 2, 4],
+    ///     entries: vec![1, 2, 0, 1],
+    /// };
+    /// let refusal = mesh.bfs_vertex_permutation().unwrap_err();
+    /// assert_eq!(refusal.number(), 18);
+    /// assert_eq!(refusal.index(), Some(2));
+    /// ```
+    pub fn index(self) -> Option<usize> {
+        (self.number == 18).then_some(self.index)
     }
 
     /// What was checked.
@@ -72,8 +106,8 @@ impl Refusal {
             ),
             3 => (
                 "mesh",
-                "the starts have a wrong length, don't begin at 0, fall, don't end at the entry \
-                 count or run past their list, or a neighbour list is over 32",
+                "a start list has a wrong length, a neighbour list is over 32, or the part that a \
+                 query reads runs past its ids or triples",
             ),
             4 => ("mesh", "an id is not below the vertex count"),
             5 => (
@@ -101,6 +135,11 @@ impl Refusal {
                 "none has a least weight above minus infinity",
             ),
             13 => ("walk", "a vertex is not reached"),
+            17 => (
+                "mesh",
+                "the first start is not 0, or the last is not the number of entries",
+            ),
+            18 => ("mesh", "a start is below the one before it"),
             _ => ("archive", "it answered with a row that this crate lacks"),
         }
     }
@@ -108,9 +147,16 @@ impl Refusal {
 
 impl fmt::Display for Refusal {
     fn fmt(&self, f: &mut fmt::Formatter) -> fmt::Result {
-        let Refusal { number } = *self;
+        let number = self.number;
         let (place, meaning) = self.row();
-        write!(f, "refusal {number} ({place}): {meaning}")
+        write!(f, "refusal {number} ({place}): {meaning}")?;
+        match self.index() {
+            Some(index) => write!(
+                f,
+                ": the start at index {index} of its list, counted from 0"
+            ),
+            None => Ok(()),
+        }
     }
 }
 
@@ -124,13 +170,36 @@ mod tests {
     fn accepted_and_refused() {
         assert_eq!(Refusal::check(0), Ok(()));
         assert_eq!(Refusal::check(7).map_err(Refusal::number), Err(7));
+        assert_eq!(Refusal::check_at(0, 0), Ok(()));
+    }
+
+    /// Only row 18 has an index.
+    #[test]
+    fn indices() {
+        let index = |number| Refusal { number, index: 5 }.index();
+        assert_eq!(index(18), Some(5));
+        assert!((1..=99).all(|number| number == 18 || index(number).is_none()));
+        let refused = Refusal::check_at(18, 5).map_err(Refusal::index);
+        assert_eq!(refused, Err(Some(5)));
     }
 
     #[test]
     fn each_row_has_its_own_text() {
-        let text = |number| Refusal { number }.to_string();
-        assert_eq!(text(1), "refusal 1 (frequency): it is below 1 or above 80");
-        assert_eq!(text(13), "refusal 13 (walk): a vertex is not reached");
+        let text = |number, index| Refusal { number, index }.to_string();
+        assert_eq!(
+            text(1, 0),
+            "refusal 1 (frequency): it is below 1 or above 80"
+        );
+        assert_eq!(text(13, 0), "refusal 13 (walk): a vertex is not reached");
+        assert_eq!(
+            text(17, 0),
+            "refusal 17 (mesh): the first start is not 0, or the last is not the number of entries"
+        );
+        assert_eq!(
+            text(18, 2),
+            "refusal 18 (mesh): a start is below the one before it: the start at index 2 of its \
+             list, counted from 0"
+        );
     }
 
     /// The header's constants, each `KOSHIRGA_NAME = NUMBER` in a line of its own.
@@ -146,14 +215,20 @@ mod tests {
     #[test]
     fn rows_are_those_of_the_header() {
         let rows = header_rows();
-        assert!(rows.iter().copied().eq(0..=13), "{rows:?}");
-        let row = |number| Refusal { number }.row();
-        let lacking = row(14);
-        for number in 1..=13 {
+        assert!(
+            rows.iter().copied().eq((0..=13).chain([17, 18])),
+            "{rows:?}"
+        );
+        let row = |number| Refusal { number, index: 0 }.row();
+        let lacking = row(u32::MAX);
+        let known: Vec<u32> = (0..=99).filter(|&number| row(number) != lacking).collect();
+        assert_eq!(known, rows[1..]);
+        let listed = known.iter().map(|&number| {
             let (place, meaning) = row(number);
-            assert_ne!((place, meaning), lacking, "row {number}");
-            let line = format!("\n/// | {number} | {place} | {meaning} |\n");
-            assert!(include_str!("refusal.rs").contains(&line), "{line}");
-        }
+            format!("/// | {number} | {place} | {meaning} |")
+        });
+        let lines = include_str!("refusal.rs").lines();
+        let table = lines.filter(|line| line.starts_with("/// | ")).skip(1);
+        assert_eq!(table.collect::<Vec<_>>(), listed.collect::<Vec<_>>());
     }
 }

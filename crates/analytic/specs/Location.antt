@@ -50,6 +50,10 @@ queryRows n ids p =
 unfoldable pub locate : ℕ → List ℕ → Vector3 → Location
 locate n ids p = answer (queryRows n ids p) Refused (locateOn n ids (candidate (signsOf p) (flagSum (outsideFirst p))) p)
 
+-- What rows found, and a triangle, as a location: where the rows refuse, the triangle is no part of it.
+abbrev pub metLocation : Verdict → Triple → Weights → Location
+metLocation verdict triple weights = answer verdict Refused (Located triple weights)
+
 -- "Nearest is the last corner of greatest weight in total order."
 unfoldable pub lastGreatest : Triple → Weights → ℕ
 lastGreatest t w =

@@ -5,7 +5,8 @@ ghost use lib.ListN.{length};
 ghost use Rattle.icosahedron.specs.Slots.{slotsPerFace};
 ghost use Rattle.analytic.specs.FaceChoice.{weighed, signsOf, flagSum, candidate, chooseFace, faceChoiceOf};
 ghost use Rattle.analytic.specs.SubTriangle.{clampedFloor, subTriangle, subTriangleAt, subTriangleOn, clampedSlot};
-ghost use Rattle.analytic.specs.Location.{idAt, tripleOf, idsBelow, locateOn, locate, lastGreatest, findNearestVertex};
+ghost use Rattle.refusal.specs.declared.Verdict.the-variants as verdict;
+ghost use Rattle.analytic.specs.Location.{idAt, tripleOf, idsBelow, metLocation, locate, lastGreatest, findNearestVertex};
 use barycentric::Triple;
 use barycentric::Weights;
 use icosahedron::icosahedron_point;
@@ -16,6 +17,7 @@ use master_face::MasterFace;
 use master_face::Outside;
 use master_face::faces::master_face_of;
 use refusal::Refusal;
+use refusal::Verdict;
 use vector::Vector3;
 
 // On which side of each symmetry plane a point lies: whether on the negative one.
@@ -263,18 +265,65 @@ fn ids_below(count: usize, t: Triple) -> bool
     ((t.first as usize) < count) & ((t.second as usize) < count) & ((t.third as usize) < count)
 }
 
-// The answer on a master face: the ids are tested before they are given out.
-fn locate_on(n: usize, id_table: &[u16], face: usize, p: Vector3) -> Location
-    requires { ⌜ (n ≤ 80) × (face < 20) × (20 * slotsPerFace n ≤ length (now «id_table»)) ⌝ }
-    ensures { λ r. ⌜ r ≡ locateOn n (now («id_table» .entry)) face p ⌝ }
+// What the rows found, and beside it the triangle, which has a meaning where they let pass. In an answer by cases number and index of a refusal
+// share the place of the weights, which are then stored in pieces, so that whoever reads them has to wait.
+struct Met {
+    verdict: Verdict,
+    triple: Triple,
+    weights: Weights,
+}
+
+fn refused(reason: Refusal) -> Met
+    ensures { λ r. ⌜ r .verdict ≡ verdict.Refused reason ⌝ }
 {
-    let t = sub_triangle_on(n, master_face_of(face), p);
-    let triple = triple_of(n, id_table, face, t);
-    if ids_below(vertex_count(n), triple) {
-        let weights = t.weights;
-        Location::Located { triple, weights }
-    } else {
-        Location::Refused(Refusal::new(4))
+    Met {
+        verdict: Verdict::Refused(reason),
+        triple: Triple {
+            first: 0,
+            second: 0,
+            third: 0,
+        },
+        weights: Weights {
+            u: 0.0,
+            v: 0.0,
+            w: 0.0,
+        },
+    }
+}
+
+// Rows 1, 8, 9, 10 and 4, and the triangle of the lattice that a direction meets. The ids are tested before they are given out.
+fn meet(frequency: u32, id_table: &[u16], direction: Vector3) -> Met
+    ensures { λ r. ⌜ metLocation (r .verdict) (r .triple) (r .weights) ≡ locate frequency (now («id_table» .entry)) direction ⌝ }
+{
+    let n = frequency as usize;
+    if n < 1 {
+        return refused(Refusal::new(1));
+    }
+    if n > 80 {
+        return refused(Refusal::new(1));
+    }
+    if id_table.len() < 20 * slots_per_face(n) {
+        return refused(Refusal::new(8));
+    }
+    if !direction.is_admissible() {
+        return refused(Refusal::new(9));
+    }
+    match master_face(direction) {
+        FaceChoice::Refused(why) => refused(why),
+        FaceChoice::Face(face) => {
+            let t = sub_triangle_on(n, master_face_of(face), direction);
+            let triple = triple_of(n, id_table, face, t);
+            if ids_below(vertex_count(n), triple) {
+                let weights = t.weights;
+                Met {
+                    verdict: Verdict::Passed,
+                    triple,
+                    weights,
+                }
+            } else {
+                refused(Refusal::new(4))
+            }
+        }
     }
 }
 
@@ -282,22 +331,15 @@ fn locate_on(n: usize, id_table: &[u16], face: usize, p: Vector3) -> Location
 pub fn locate(frequency: u32, id_table: &[u16], direction: Vector3) -> Location
     ensures { λ r. ⌜ r ≡ locate frequency (now («id_table» .entry)) direction ⌝ }
 {
-    let n = frequency as usize;
-    if n < 1 {
-        return Location::Refused(Refusal::new(1));
-    }
-    if n > 80 {
-        return Location::Refused(Refusal::new(1));
-    }
-    if id_table.len() < 20 * slots_per_face(n) {
-        return Location::Refused(Refusal::new(8));
-    }
-    if !direction.is_admissible() {
-        return Location::Refused(Refusal::new(9));
-    }
-    match master_face(direction) {
-        FaceChoice::Refused(why) => Location::Refused(why),
-        FaceChoice::Face(face) => locate_on(n, id_table, face, direction),
+    let met = meet(frequency, id_table, direction);
+    let verdict = met.verdict;
+    match verdict {
+        Verdict::Refused(why) => Location::Refused(why),
+        Verdict::Passed => {
+            let triple = met.triple;
+            let weights = met.weights;
+            Location::Located { triple, weights }
+        }
     }
 }
 
@@ -318,8 +360,10 @@ fn last_greatest(t: Triple, weights: Weights) -> u16
 pub fn find_nearest_vertex(frequency: u32, id_table: &[u16], direction: Vector3) -> Nearest
     ensures { λ r. ⌜ r ≡ findNearestVertex frequency (now («id_table» .entry)) direction ⌝ }
 {
-    match locate(frequency, id_table, direction) {
-        Location::Refused(why) => Nearest::Refused(why),
-        Location::Located { triple, weights } => Nearest::Vertex(last_greatest(triple, weights)),
+    let met = meet(frequency, id_table, direction);
+    let verdict = met.verdict;
+    match verdict {
+        Verdict::Refused(why) => Nearest::Refused(why),
+        Verdict::Passed => Nearest::Vertex(last_greatest(met.triple, met.weights)),
     }
 }

@@ -1,4 +1,4 @@
--- The numbers that C and Rust callers receive for an answer by cases: the refusal's number first, 0 where the call was accepted; the other fields of a refused answer are 0. Definitions only.
+-- The numbers that C and Rust callers receive for an answer by cases: the refusal's number first, 0 where the call was accepted; the other fields of a refused answer are 0, but for the index that row 18 carries. Definitions only.
 use Prim.Native.Nat.{ℕ}
 use mathlib.Core.Bool.{Bool}
 use lib.IntN.{ℤ, pos, negsuc}
@@ -25,6 +25,7 @@ use Rattle.grid_query.specs.declared.Located.{Located}
 use Rattle.grid_query.specs.declared.Located.the-variants as located
 use Rattle.grid.specs.declared.Build.{Build}
 use Rattle.grid.specs.declared.Build.the-variants as build
+use Rattle.c_api.specs.declared.VerdictAnswer.{VerdictAnswer}
 use Rattle.c_api.specs.declared.BuildAnswer.{BuildAnswer}
 use Rattle.c_api.specs.declared.FaceAnswer.{FaceAnswer}
 use Rattle.c_api.specs.declared.AnalyticAnswer.{AnalyticAnswer}
@@ -48,6 +49,11 @@ directionCode (Accepted vector) = 0
 abbrev pub verdictCode : Verdict → ℕ
 verdictCode (verdict.Refused reason) = reason .number
 verdictCode verdict.Passed = 0
+
+-- The same with the index that the refusal carries.
+abbrev pub verdictAnswer : Verdict → VerdictAnswer
+verdictAnswer (verdict.Refused reason) = record { refusal = reason .number; index = reason .index }
+verdictAnswer verdict.Passed = record { refusal = 0; index = 0 }
 
 -- Three symmetry signs and three outside flags, as the classifier takes them.
 abbrev pub signsOf : Bool → Bool → Bool → Signs
@@ -78,21 +84,21 @@ vertexAnswer (vertex.Refused reason) = record { refusal = reason .number; id = 0
 vertexAnswer (vertex.Vertex id) = record { refusal = 0; id = id }
 
 abbrev pub walkAnswer : Walk → WalkAnswer
-walkAnswer (walk.Refused reason) = record { refusal = reason .number; «entries_read» = 0 }
-walkAnswer (walk.Walked read) = record { refusal = 0; «entries_read» = read }
+walkAnswer (walk.Refused reason) = record { refusal = reason .number; «entries_read» = 0; index = reason .index }
+walkAnswer (walk.Walked read) = record { refusal = 0; «entries_read» = read; index = 0 }
 
 abbrev pub buildAnswer : Build → BuildAnswer
-buildAnswer (build.Refused reason) = record { refusal = reason .number; side = 0 }
-buildAnswer (build.Built side) = record { refusal = 0; side = side }
+buildAnswer (build.Refused reason) = record { refusal = reason .number; side = 0; index = reason .index }
+buildAnswer (build.Built side) = record { refusal = 0; side = side; index = 0 }
 
 abbrev pub nearestAnswer : Nearest → NearestAnswer
-nearestAnswer (nearest.Refused reason) = record { refusal = reason .number; id = 0; candidates = 0; distance = zeroF }
+nearestAnswer (nearest.Refused reason) = record { refusal = reason .number; id = 0; candidates = 0; distance = zeroF; index = reason .index }
 nearestAnswer (nearest.Found id distance candidates) =
-    record { refusal = 0; id = id; candidates = candidates; distance = distance }
+    record { refusal = 0; id = id; candidates = candidates; distance = distance; index = 0 }
 
 abbrev pub locatedAnswer : Located → LocatedAnswer
 locatedAnswer (located.Refused reason) =
-    record { refusal = reason .number; first = 0; second = 0; third = 0; u = zeroF; v = zeroF; w = zeroF; least = zeroF }
+    record { refusal = reason .number; first = 0; second = 0; third = 0; u = zeroF; v = zeroF; w = zeroF; least = zeroF; index = reason .index }
 locatedAnswer (located.At triple weights least) = record {
   refusal = 0;
   first = triple .first;
@@ -102,4 +108,5 @@ locatedAnswer (located.At triple weights least) = record {
   v = weights .v;
   w = weights .w;
   least = least;
+  index = 0;
 }

@@ -5,8 +5,9 @@ use lib.Ieee.{Float}
 use Rattle.mesh.specs.Mesh.{Mesh}
 use Rattle.walk.specs.Walk.{WalkOutcome}
 use Rattle.renumber.specs.Renumber.{RenumberOutcome}
+use Rattle.c_api.specs.declared.VerdictAnswer.{VerdictAnswer}
 use Rattle.c_api.specs.declared.WalkAnswer.{WalkAnswer}
-use Rattle.c_api.specs.Code.{buildAnswer, verdictCode, walkAnswer}
+use Rattle.c_api.specs.Code.{buildAnswer, verdictCode, verdictAnswer, walkAnswer}
 use Rattle.lattice.specs.Lattice.{LatticeSlices, LatticeOutcome}
 use Rattle.grid.specs.Grid.{GridSlices, BuildOutcome}
 use Rattle.c_api.specs.declared.BuildAnswer.{BuildAnswer}
@@ -23,17 +24,17 @@ walkLeft answer order queue = record { answer = answer; order = order; queue = q
 abbrev pub walkLeftOf : WalkOutcome → WalkLeft
 walkLeftOf outcome = walkLeft (walkAnswer (outcome .answered)) (outcome .order) (outcome .queue)
 
--- A renumbering's code, mesh and data.
+-- A renumbering's answer, mesh and data.
 pub record RenumberLeft : Type 0 where
-  pub code : ℕ
+  pub answer : VerdictAnswer
   pub mesh : Mesh
   pub values : List Float
 
-abbrev pub renumberLeft : ℕ → Mesh → List Float → RenumberLeft
-renumberLeft code mesh values = record { code = code; mesh = mesh; values = values }
+abbrev pub renumberLeft : VerdictAnswer → Mesh → List Float → RenumberLeft
+renumberLeft answer mesh values = record { answer = answer; mesh = mesh; values = values }
 
 abbrev pub renumberLeftOf : RenumberOutcome → RenumberLeft
-renumberLeftOf outcome = renumberLeft (verdictCode (outcome .verdict)) (outcome .mesh) (outcome .values)
+renumberLeftOf outcome = renumberLeft (verdictAnswer (outcome .verdict)) (outcome .mesh) (outcome .values)
 
 -- What a call of `koshirga_lattice` leaves: its answer and the four slices.
 pub record LatticeLeft : Type 0 where

@@ -40,7 +40,14 @@ use vector::Direction;
 use vector::Vector3;
 use walk::Walk;
 
-// Every answer by cases has the refusal's number first, 0 where the call was accepted. The other fields of a refused answer are 0.
+// Every answer by cases has the refusal's number first, 0 where the call was accepted. The other fields of a refused answer are 0,
+// but for the index that row 18 carries, in the answers of the calls that have that row.
+#[repr(C)]
+pub struct VerdictAnswer {
+    pub refusal: u32,
+    pub index: usize,
+}
+
 #[repr(C)]
 pub struct FaceAnswer {
     pub refusal: u32,
@@ -68,12 +75,14 @@ pub struct VertexAnswer {
 pub struct WalkAnswer {
     pub refusal: u32,
     pub entries_read: u32,
+    pub index: usize,
 }
 
 #[repr(C)]
 pub struct BuildAnswer {
     pub refusal: u32,
     pub side: u32,
+    pub index: usize,
 }
 
 #[repr(C)]
@@ -82,6 +91,7 @@ pub struct NearestAnswer {
     pub id: u32,
     pub candidates: u32,
     pub distance: f64,
+    pub index: usize,
 }
 
 #[repr(C)]
@@ -94,6 +104,7 @@ pub struct LocatedAnswer {
     pub v: f64,
     pub w: f64,
     pub least: f64,
+    pub index: usize,
 }
 
 // How the datum of the bit pattern x stands to that of y in the total order: -1, 0 or 1.
@@ -342,15 +353,17 @@ pub extern "C" fn koshirga_walk(
         Walk::Refused(reason) => WalkAnswer {
             refusal: reason.number,
             entries_read: 0,
+            index: reason.index,
         },
         Walk::Walked(entries_read) => WalkAnswer {
             refusal: 0,
             entries_read,
+            index: 0,
         },
     }
 }
 
-// 0 where the call was accepted, and otherwise the refusal's number: then all slices are as they were.
+// After a refusal all slices are as they were.
 #[no_mangle]
 pub extern "C" fn koshirga_renumber(
     positions: &mut [f64],
@@ -364,9 +377,9 @@ pub extern "C" fn koshirga_renumber(
     old_entries: &mut [u16],
     done: &mut [u8],
     held: &mut [f64],
-) -> u32
+) -> VerdictAnswer
     ensures { λ r. ⌜ renumberLeft r (meshOf (now (positions .exit)) (now (starts .exit)) (now (entries .exit))) (now (values .exit)) ≡ renumberLeftOf (renumber (meshOf (now (positions .entry)) (now (starts .entry)) (now (entries .entry))) (now (values .entry)) (callOf (now (permutation .entry)) «entries_per_vertex» (length (now (sources .entry)) ∷ length (now («old_starts» .entry)) ∷ length (now («old_entries» .entry)) ∷ length (now (done .entry)) ∷ length (now (held .entry)) ∷ []))) ⌝ }
-    ensures { λ r. ⌜ (0 < r → scratchOf (now (sources .exit)) (now («old_starts» .exit)) (now («old_entries» .exit)) (now (done .exit)) (now (held .exit)) ≡ scratchOf (now (sources .entry)) (now («old_starts» .entry)) (now («old_entries» .entry)) (now (done .entry)) (now (held .entry))) ⌝ }
+    ensures { λ r. ⌜ (0 < r .refusal → scratchOf (now (sources .exit)) (now («old_starts» .exit)) (now («old_entries» .exit)) (now (done .exit)) (now (held .exit)) ≡ scratchOf (now (sources .entry)) (now («old_starts» .entry)) (now («old_entries» .entry)) (now (done .entry)) (now (held .entry))) ⌝ }
 {
     let verdict = renumber::apply_vertex_permutation(
         positions,
@@ -382,8 +395,14 @@ pub extern "C" fn koshirga_renumber(
         held,
     );
     match verdict {
-        Verdict::Refused(reason) => reason.number,
-        Verdict::Passed => 0,
+        Verdict::Refused(reason) => VerdictAnswer {
+            refusal: reason.number,
+            index: reason.index,
+        },
+        Verdict::Passed => VerdictAnswer {
+            refusal: 0,
+            index: 0,
+        },
     }
 }
 
@@ -431,8 +450,13 @@ pub extern "C" fn koshirga_build_grid(
         Build::Refused(reason) => BuildAnswer {
             refusal: reason.number,
             side: 0,
+            index: reason.index,
         },
-        Build::Built(side) => BuildAnswer { refusal: 0, side },
+        Build::Built(side) => BuildAnswer {
+            refusal: 0,
+            side,
+            index: 0,
+        },
     }
 }
 
@@ -461,6 +485,7 @@ pub extern "C" fn koshirga_grid_nearest(
             id: 0,
             candidates: 0,
             distance: 0.0,
+            index: reason.index,
         },
         Nearest::Found {
             id,
@@ -471,6 +496,7 @@ pub extern "C" fn koshirga_grid_nearest(
             id: id as u32,
             candidates,
             distance,
+            index: 0,
         },
     }
 }
@@ -506,6 +532,7 @@ pub extern "C" fn koshirga_grid_locate(
             v: 0.0,
             w: 0.0,
             least: 0.0,
+            index: reason.index,
         },
         Located::At {
             triple,
@@ -520,6 +547,7 @@ pub extern "C" fn koshirga_grid_locate(
             v: weights.v,
             w: weights.w,
             least,
+            index: 0,
         },
     }
 }

@@ -10,3 +10,4 @@ pub mod Triangles
 pub mod Grid
 pub mod Room
 pub mod BuiltBelow
+pub mod Refusals

@@ -52,7 +52,7 @@ slicesFit grid lent =
     leb (length (grid .cellStarts)) (length (lent .cellStarts)) && (leb (length (grid .cellIds)) (length (lent .cellIds))
     && (leb (length (grid .triangleStarts)) (length (lent .triangleStarts)) && leb (length (grid .triples)) (length (lent .triples))))
 
--- Rows 2, 3, 4, 5, 8.
+-- The mesh rows 2 to 5, then 8.
 unfoldable pub buildRows : Mesh → GridSlices → Verdict
 buildRows m lent = then (meshRows m) (row (slicesFit (gridOf m) lent) (refusal 8) Passed)
 

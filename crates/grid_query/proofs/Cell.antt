@@ -16,12 +16,13 @@ use Rattle.sequences.proofs.Range.{and-intro, all-below-intro}
 use Rattle.sequences.proofs.Tabulate.{getD-member}
 use Rattle.sequences.proofs.Ascending.{length-sort, sort-members}
 use Rattle.refusal.specs.declared.Verdict.the-variants.{Passed}
-use Rattle.refusal.specs.Refusal.{refusal}
+use Rattle.refusal.specs.Refusal.{refusal, refusalAt}
 use Rattle.refusal.proofs.Rows.{row-passed}
 use Rattle.vector.specs.declared.Vector3.{Vector3}
 use Rattle.vector.specs.Vector.{normalized}
 use Rattle.vector.specs.Direction.{admissible}
 use Rattle.mesh.specs.Mesh.{Mesh, count}
+use Rattle.mesh.specs.Rows.{notFalling, idsBelow}
 use Rattle.mesh.specs.Adjacency.{Mutual}
 use Rattle.mesh.proofs.Facts.{AdjacencyFacts, positions-fit}
 use Rattle.mesh.proofs.Renumbered.{Renumbered}
@@ -31,7 +32,7 @@ use Rattle.grid.specs.Grid.{gridOf, idsIn}
 use Rattle.grid.proofs.Cells.{ids-ascending, id-placed, cell-part, same-side, ids-renumbered, same-cell-starts, same-ids-length}
 use Rattle.grid.proofs.Triangles.{triangle-size, triples-part, triangles-renumbered}
 use Rattle.grid.proofs.Grid.{cell-starts-length, triangle-starts-length}
-use Rattle.grid_query.specs.Cell.{cellOf, cellOfQuery, gridFits, startsCounted, partFits, idsBelow, candidates, inTriples, triplesAt, cellRows}
+use Rattle.grid_query.specs.Cell.{cellOf, cellOfQuery, gridFits, startsCounted, partWithin, candidates, inTriples, triplesAt, cellRows}
 use Rattle.grid_query.specs.Nearest.{squaredDistance}
 use Rattle.grid_query.proofs.Distance.{same-squared-distance}
 use Rattle.grid_query.proofs.NearestCandidate.{SameCandidates}
@@ -90,8 +91,9 @@ passed-some m facts direction h =
     let fits = row-passed (gridFits (gridOf m) (m .positions)) (refusal 2) _ h in
     let counted = row-passed (startsCounted (gridOf m) (m .positions)) (refusal 3) _ (fits .1) in
     let admitted = row-passed (admissible direction) (refusal 9) _ (counted .1) in
-    let inside = row-passed (partFits (gridOf m .cellStarts) (length (gridOf m .cellIds)) cell) (refusal 3) _ (admitted .1) in
-    ltb-true 0 (length (candidates (gridOf m) cell)) (row-passed (ltb 0 (length (candidates (gridOf m) cell))) (refusal 11) _ (inside .1) .0)
+    let ascends = row-passed (notFalling (gridOf m .cellStarts) cell) (refusalAt 18 (suc cell)) _ (admitted .1) in
+    let within = row-passed (partWithin (gridOf m .cellStarts) (length (gridOf m .cellIds)) cell) (refusal 3) _ (ascends .1) in
+    ltb-true 0 (length (candidates (gridOf m) cell)) (row-passed (ltb 0 (length (candidates (gridOf m) cell))) (refusal 11) _ (within .1) .0)
 
 -- ---- a mesh and the mesh renumbered
 module _ (m m₁ : Mesh) {p b : ℕ → ℕ} (r : Renumbered m m₁ p b) where

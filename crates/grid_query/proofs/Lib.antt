@@ -1,12 +1,12 @@
 pub mod Clamp
 pub mod CellBound
-pub mod IdsBelow
 pub mod Parts
 pub mod GridRows
 pub mod Scan
 pub mod Triples
 pub mod VertexFound
 pub mod TriangleLocated
+pub mod Refusals
 pub mod Distance
 pub mod NearestCandidate
 pub mod Cell

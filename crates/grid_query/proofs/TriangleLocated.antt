@@ -9,7 +9,7 @@ use lib.Ieee.{Float, nan, inf, fin, lt}
 use Rattle.sequences.specs.Starts.{blockPart}
 use Rattle.refusal.specs.declared.Refusal.{Refusal}
 use Rattle.refusal.specs.declared.Verdict.the-variants as verdict
-use Rattle.refusal.specs.Refusal.{refusal}
+use Rattle.refusal.specs.Refusal.{refusal, refusalAt}
 use Rattle.refusal.proofs.Rows.{row-passed, answer-accepted}
 use Rattle.vector.specs.declared.Vector3.{Vector3}
 use Rattle.vector.specs.Vector.{normalized}
@@ -17,13 +17,14 @@ use Rattle.barycentric.specs.declared.Triple.{Triple}
 use Rattle.barycentric.specs.declared.Weights.{Weights}
 use Rattle.barycentric.specs.Weights.{leastWeight}
 use Rattle.mesh.specs.Mesh.{vertexCount}
+use Rattle.mesh.specs.Rows.{notFalling, idsBelow}
 use Rattle.grid.specs.Grid.{Grid}
 use Rattle.grid_query.specs.declared.Located.{Located}
 use Rattle.grid_query.specs.declared.Located.the-variants as location
-use Rattle.grid_query.specs.Cell.{idsBelow, cellOfQuery, candidates, inTriples, triplesAt, cellRows}
+use Rattle.grid_query.specs.Cell.{cellOfQuery, candidates, inTriples, triplesAt, cellRows}
 use Rattle.grid_query.specs.Nearest.{nearestOf}
-use Rattle.grid_query.specs.Locate.{weighed, leastKept, keptOf, triplesFit, triangleRows, locatedAt, locate}
-use Rattle.grid_query.proofs.IdsBelow.{ids-below-at}
+use Rattle.grid_query.specs.Locate.{weighed, leastKept, keptOf, triplesWithin, triangleRows, locatedAt, locate}
+use Rattle.mesh.proofs.IdsBelow.{ids-below-at}
 
 never-located : (reason : Refusal) (triple : Triple) (weights : Weights) (least : Float) → location.Refused reason ≡ location.At triple weights least → ⊥
 never-located reason triple weights least h = let z : _≡_ {A = ℕ} 0 1 = cc in omega arith
@@ -86,7 +87,8 @@ triangle-located grid positions direction triple weights least h =
     let ids = blockPart 3 (grid .triangleStarts) (grid .triples) v in
     let cell = answer-accepted (cellRows grid positions direction) location.Refused (locatedAt grid positions (normalized direction) v) _ (λ reason. never-located reason triple weights least) h in
     let at = answer-accepted (triangleRows grid positions v) location.Refused _ _ (λ reason. never-located reason triple weights least) (cell .1) in
-    let fits = row-passed (triplesFit grid v) (refusal 3) _ (at .0) in
-    let below = row-passed (idsBelow (vertexCount positions) ids) (refusal 4) verdict.Passed (fits .1) in
+    let ascends = row-passed (notFalling (grid .triangleStarts) v) (refusalAt 18 (suc v)) _ (at .0) in
+    let within = row-passed (triplesWithin grid v) (refusal 3) _ (ascends .1) in
+    let below = row-passed (idsBelow (vertexCount positions) ids) (refusal 4) verdict.Passed (within .1) in
     subst (Sound (vertexCount positions)) (at .1)
     (kept-sound (vertexCount positions) positions (normalized direction) (location.Refused (refusal 12)) ids (λ i lt. ids-below-at (vertexCount positions) ids i (below .0) lt) tt)

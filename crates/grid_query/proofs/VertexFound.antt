@@ -1,5 +1,5 @@
 -- What a nearest query's answer tells: `vertex-found`. The vertex is one of the candidates of the direction's cell and below the vertex count, and the count is theirs. Assumes nothing.
-use Prim.Native.Nat.{ℕ, _<_}
+use Prim.Native.Nat.{ℕ, suc, _<_}
 use native.Mathlib.Omega.{arith}
 use mathlib.Core.Path.{_≡_, sym, ap, _∙_}
 use mathlib.Core.Bool.{true}
@@ -11,16 +11,18 @@ use borrow.Author.Tests.{ltb-true}
 use Rattle.refusal.specs.declared.Refusal.{Refusal}
 use Rattle.refusal.specs.declared.Verdict.{Verdict}
 use Rattle.refusal.specs.declared.Verdict.the-variants as verdict
-use Rattle.refusal.specs.Refusal.{refusal, answer}
+use Rattle.refusal.specs.Refusal.{refusal, refusalAt, answer}
 use Rattle.refusal.proofs.Rows.{row-passed, then-passed, answer-accepted, answer-refused}
 use Rattle.vector.specs.declared.Vector3.{Vector3}
 use Rattle.vector.specs.Vector.{normalized}
 use Rattle.mesh.specs.Mesh.{vertexCount}
+use Rattle.mesh.specs.Rows.{notFalling, idsBelow}
 use Rattle.grid.specs.Grid.{Grid}
+use Rattle.grid_query.specs.declared.Nearest.{Nearest}
 use Rattle.grid_query.specs.declared.Nearest.the-variants as nearest
-use Rattle.grid_query.specs.Cell.{partFits, idsBelow, cellOfQuery, candidates, gridRows, candidateRows, cellRows}
+use Rattle.grid_query.specs.Cell.{partWithin, cellOfQuery, candidates, gridRows, candidateRows, cellRows}
 use Rattle.grid_query.specs.Nearest.{squaredDistance, nearestOf, nearestIn, nearestOfCell, nearestVertex}
-use Rattle.grid_query.proofs.IdsBelow.{ids-below-member}
+use Rattle.mesh.proofs.IdsBelow.{ids-below-member}
 use Rattle.grid_query.proofs.GridRows.{cell-rows-then}
 use Rattle.grid_query.proofs.NearestCandidate.{nearest-member}
 
@@ -39,8 +41,9 @@ pub record FoundFacts (grid : Grid) (positions : List Float) (direction : Vector
 module _ (grid : Grid) (positions : List Float) (direction : Vector3) (cell : ℕ) where
   candidate-facts : candidateRows grid positions cell ≡ verdict.Passed → (0 < length (candidates grid cell)) × (idsBelow (vertexCount positions) (candidates grid cell) ≡ true)
   candidate-facts h =
-      let fits = row-passed (partFits (grid .cellStarts) (length (grid .cellIds)) cell) (refusal 3) _ h in
-      let some = row-passed (ltb 0 (length (candidates grid cell))) (refusal 11) _ (fits .1) in
+      let ascends = row-passed (notFalling (grid .cellStarts) cell) (refusalAt 18 (suc cell)) _ h in
+      let within = row-passed (partWithin (grid .cellStarts) (length (grid .cellIds)) cell) (refusal 3) _ (ascends .1) in
+      let some = row-passed (ltb 0 (length (candidates grid cell))) (refusal 11) _ (within .1) in
       let ids = row-passed (idsBelow (vertexCount positions) (candidates grid cell)) (refusal 4) verdict.Passed (some .1) in
       (ltb-true 0 _ (some .0), ids .0)
 
@@ -64,7 +67,7 @@ module _ (grid : Grid) (positions : List Float) (direction : Vector3) (cell : �
   pub cell-refused : (reason : Refusal) → nearestOfCell grid positions direction cell ≡ nearest.Refused reason → candidateRows grid positions cell ≡ verdict.Refused reason
   unfolding nearestOfCell nearestIn
   cell-refused reason h =
-      answer-refused (candidateRows grid positions cell) nearest.Refused _ reason (λ q. never-found reason _ _ _ (sym q)) (λ other q. cc) h
+      answer-refused (λ (a : Nearest). a ≡ nearest.Refused reason) (candidateRows grid positions cell) nearest.Refused _ reason (λ q. never-found reason _ _ _ (sym q)) (λ other q. cc) h
 
 -- every vertex that a nearest query answers
 pub vertex-found : (grid : Grid) (positions : List Float) (direction : Vector3) (id : ℕ) (distance : Float) (n : ℕ) → nearestVertex grid positions direction ≡ nearest.Found id distance n

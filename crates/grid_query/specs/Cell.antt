@@ -5,16 +5,15 @@ use mathlib.Core.List.{List, [], _∷_}
 use lib.Dec.{leb, ltb, eqb}
 use lib.ListN.{length, getD}
 use lib.Ieee.{Float, lt, toUnsigned}
-use Rattle.sequences.specs.Range.{allBelow}
 use Rattle.sequences.specs.Starts.{part, blockPart}
 use Rattle.refusal.specs.declared.Verdict.{Verdict}
 use Rattle.refusal.specs.declared.Verdict.the-variants.{Passed}
-use Rattle.refusal.specs.Refusal.{refusal, row}
+use Rattle.refusal.specs.Refusal.{refusal, refusalAt, row}
 use Rattle.vector.specs.declared.Vector3.{Vector3}
 use Rattle.vector.specs.Vector.{normalized}
 use Rattle.vector.specs.Direction.{admissible}
 use Rattle.mesh.specs.Mesh.{vertexCount}
-use Rattle.mesh.specs.Rows.{positionsFit}
+use Rattle.mesh.specs.Rows.{positionsFit, notFalling, idsBelow}
 use Rattle.grid.specs.declared.Projected.{Projected}
 use Rattle.grid.specs.CubeFace.{zeroFloat, faceProjection, dominantFace}
 use Rattle.binary64.specs.Convert.{whole}
@@ -50,13 +49,9 @@ unfoldable pub startsCounted : Grid → List Float → Bool
 startsCounted grid positions =
     eqb (length (grid .cellStarts)) (suc (cellCount (grid .side))) && eqb (length (grid .triangleStarts)) (suc (vertexCount positions))
 
--- "a part that falls or runs past the ids (3)": the part i by its starts, of a list that has so many places.
-unfoldable pub partFits : List ℕ → ℕ → ℕ → Bool
-partFits starts places i = leb (getD starts i 0) (getD starts (suc i) 0) && leb (getD starts (suc i) 0) places
-
--- "an id (4)": each one below the count.
-unfoldable pub idsBelow : ℕ → List ℕ → Bool
-idsBelow n ids = allBelow (λ i. ltb (getD ids i 0) n) (length ids)
+-- "it tries the part read for falling (18), then for running past the ids, still 3" (W-209). Of falling the mesh's `notFalling` is the test, here at one part alone. The part i ends within a list of so many places:
+unfoldable pub partWithin : List ℕ → ℕ → ℕ → Bool
+partWithin starts places i = leb (getD starts (suc i) 0) places
 
 -- "Candidates are the ids in the direction's cell".
 unfoldable pub candidates : Grid → ℕ → List ℕ
@@ -80,12 +75,13 @@ gridRows grid positions direction next =
     (row (startsCounted grid positions) (refusal 3)
     (row (admissible direction) (refusal 9) next))
 
--- "then in its cell" rows 3, 11, 4.
+-- "then in its cell" rows 18, 3, 11, 4. Where its part falls, the start below the one before it is that behind the cell's own.
 abbrev pub candidateRows : Grid → List Float → ℕ → Verdict
 candidateRows grid positions cell =
-    row (partFits (grid .cellStarts) (length (grid .cellIds)) cell) (refusal 3)
+    row (notFalling (grid .cellStarts) cell) (refusalAt 18 (suc cell))
+    (row (partWithin (grid .cellStarts) (length (grid .cellIds)) cell) (refusal 3)
     (row (ltb 0 (length (candidates grid cell))) (refusal 11)
-    (row (idsBelow (vertexCount positions) (candidates grid cell)) (refusal 4) Passed))
+    (row (idsBelow (vertexCount positions) (candidates grid cell)) (refusal 4) Passed)))
 
 -- Both in their order, at the cell of the direction.
 unfoldable pub cellRows : Grid → List Float → Vector3 → Verdict

@@ -1,6 +1,6 @@
 -- The location query of a grid (document 01, "Weights and grid location"). Definitions only.
 use Prim.Native.Nat.{ℕ, suc, _*_}
-use mathlib.Core.Bool.{Bool, true, _&&_, cond}
+use mathlib.Core.Bool.{Bool, true, cond}
 use mathlib.Core.List.{List, [], _∷_}
 use lib.Dec.{leb}
 use lib.ListN.{length, getD}
@@ -8,7 +8,7 @@ use lib.Ieee.{Float, inf, lt}
 use Rattle.sequences.specs.Starts.{blockPart}
 use Rattle.refusal.specs.declared.Verdict.{Verdict}
 use Rattle.refusal.specs.declared.Verdict.the-variants.{Passed}
-use Rattle.refusal.specs.Refusal.{refusal, row, answer}
+use Rattle.refusal.specs.Refusal.{refusal, refusalAt, row, answer}
 use Rattle.vector.specs.declared.Vector3.{Vector3}
 use Rattle.vector.specs.Vector.{normalized}
 use Rattle.barycentric.specs.declared.Triple.{Triple}
@@ -16,10 +16,11 @@ use Rattle.barycentric.specs.declared.Weights.{Weights}
 use Rattle.barycentric.specs.Weights.{leastWeight}
 use Rattle.barycentric.specs.Ericson.{projectedBarycentric}
 use Rattle.mesh.specs.Mesh.{vertexCount, positionOf}
+use Rattle.mesh.specs.Rows.{notFalling, idsBelow}
 use Rattle.grid.specs.Grid.{Grid}
 use Rattle.grid_query.specs.declared.Located.{Located}
 use Rattle.grid_query.specs.declared.Located.the-variants.{Refused, At}
-use Rattle.grid_query.specs.Cell.{cellOfQuery, candidates, idsBelow, triplesAt, cellRows}
+use Rattle.grid_query.specs.Cell.{cellOfQuery, candidates, triplesAt, cellRows}
 use Rattle.grid_query.specs.Nearest.{nearestOf}
 
 abbrev pub tripleOf : ℕ → ℕ → ℕ → Triple
@@ -49,15 +50,15 @@ keptOf positions direction kept (t ∷ ts) =
     let next = weighed positions direction t in
     keptOf positions direction (cond (lt (leastKept kept) (leastKept next)) next kept) ts
 
--- "for a triangle the same at the nearest vertex (3, 4)": a part that falls or runs past the triples, and the ids of every triple there.
-unfoldable pub triplesFit : Grid → ℕ → Bool
-triplesFit grid v =
-    leb (getD (grid .triangleStarts) v 0) (getD (grid .triangleStarts) (suc v) 0) && leb (getD (grid .triangleStarts) (suc v) 0 * 3) (length (grid .triples))
+-- "for a triangle the same at the nearest vertex (3, 4)", which W-209 splits likewise: its part falls (18), then runs past the triples (3); then the ids of every triple there (4).
+unfoldable pub triplesWithin : Grid → ℕ → Bool
+triplesWithin grid v = leb (getD (grid .triangleStarts) (suc v) 0 * 3) (length (grid .triples))
 
 unfoldable pub triangleRows : Grid → List Float → ℕ → Verdict
 triangleRows grid positions v =
-    row (triplesFit grid v) (refusal 3)
-    (row (idsBelow (vertexCount positions) (blockPart 3 (grid .triangleStarts) (grid .triples) v)) (refusal 4) Passed)
+    row (notFalling (grid .triangleStarts) v) (refusalAt 18 (suc v))
+    (row (triplesWithin grid v) (refusal 3)
+    (row (idsBelow (vertexCount positions) (blockPart 3 (grid .triangleStarts) (grid .triples) v)) (refusal 4) Passed))
 
 -- The triangle kept at the vertex v, behind the rows that speak of it. Row 12 refuses where "no least above minus infinity" is found.
 unfoldable pub locatedAt : Grid → List Float → Vector3 → ℕ → Located

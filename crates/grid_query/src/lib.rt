@@ -10,9 +10,9 @@ ghost use Rattle.refusal.specs.declared.Verdict.the-variants.{Passed};
 ghost use Rattle.barycentric.specs.Weights.{leastWeight};
 ghost use Rattle.barycentric.specs.Ericson.{projectedBarycentric};
 ghost use Rattle.mesh.specs.Mesh.{vertexCount, positionOf};
-ghost use Rattle.mesh.specs.Rows.{greatestCount};
+ghost use Rattle.mesh.specs.Rows.{greatestCount, idsBelow};
 ghost use Rattle.grid_query.specs.declared.Located.the-variants.{Refused};
-ghost use Rattle.grid_query.specs.Cell.{lentGrid, clampedCell, cellOf, idsBelow, inTriples, gridRows};
+ghost use Rattle.grid_query.specs.Cell.{lentGrid, clampedCell, cellOf, inTriples, gridRows};
 ghost use Rattle.grid_query.specs.Nearest.{squaredDistance, nearestIn, nearestOfCell, nearestVertex};
 ghost use Rattle.grid_query.specs.Locate.{located, leastKept, keptOf, locatedAt, locate};
 use barycentric::Triple;
@@ -23,7 +23,7 @@ use binary64::rank;
 use grid::across_cells;
 use grid::cube_face_project;
 use grid::dominant_face;
-use mesh::entries_below;
+use mesh::ids_below;
 use mesh::position;
 use mesh::positions_fit;
 use mesh::vertex_count;
@@ -146,7 +146,7 @@ fn nearest_in_cell(positions: &[f64], candidates: &[u16], direction: Vector3) ->
     }
 }
 
-// The nearest candidate of a cell, behind rows 3, 11 and 4. Of the grid only the cell starts and ids matter.
+// The nearest candidate of a cell, behind rows 18, 3, 11 and 4. Of the grid only the cell starts and ids matter.
 fn nearest_of_cell(
     positions: &[f64],
     cell_starts: &[u32],
@@ -157,16 +157,20 @@ fn nearest_of_cell(
     requires { ⌜ cell + 1 < length (now «cell_starts») ⌝ }
     ensures { λ r. ⌜ ((side : ℕ) (triangleStarts triples : List ℕ) → r ≡ nearestOfCell (lentGrid side (now («cell_starts» .entry)) (now («cell_ids» .entry)) triangleStarts triples) (now (positions .entry)) direction cell) ⌝ }
 {
+    let next = cell + 1;
     let start = cell_starts[cell] as usize;
-    let end = cell_starts[cell + 1] as usize;
-    if !((start <= end) & (end <= cell_ids.len())) {
+    let end = cell_starts[next] as usize;
+    if end < start {
+        return Nearest::Refused(Refusal::at(18, next));
+    }
+    if end > cell_ids.len() {
         return Nearest::Refused(Refusal::new(3));
     }
     if start == end {
         return Nearest::Refused(Refusal::new(11));
     }
     let part = &cell_ids[start..end];
-    if entries_below(positions, part) {
+    if ids_below(vertex_count(positions), part) {
         nearest_in_cell(positions, part, direction)
     } else {
         Nearest::Refused(Refusal::new(4))
@@ -236,7 +240,7 @@ fn kept_triangle(positions: &[f64], triples: &[u16], direction: Vector3) -> Loca
     kept
 }
 
-// The triangle kept at a vertex, behind rows 3 and 4 there. Of the grid only the triangle starts and triples matter.
+// The triangle kept at a vertex, behind rows 18, 3 and 4 there. Of the grid only the triangle starts and triples matter.
 fn locate_at(
     positions: &[f64],
     triangle_starts: &[u32],
@@ -247,15 +251,19 @@ fn locate_at(
     requires { ⌜ vertex + 1 < length (now «triangle_starts») ⌝ }
     ensures { λ r. ⌜ ((side : ℕ) (cellStarts cellIds : List ℕ) → r ≡ locatedAt (lentGrid side cellStarts cellIds (now («triangle_starts» .entry)) (now (triples .entry))) (now (positions .entry)) direction vertex) ⌝ }
 {
+    let next = vertex + 1;
     let start = triangle_starts[vertex] as usize;
-    let end = triangle_starts[vertex + 1] as usize;
-    if !((start <= end) & (end * 3 <= triples.len())) {
+    let end = triangle_starts[next] as usize;
+    if end < start {
+        return Located::Refused(Refusal::at(18, next));
+    }
+    if end * 3 > triples.len() {
         return Located::Refused(Refusal::new(3));
     }
     let first = start * 3;
     let last = end * 3;
     let part = &triples[first..last];
-    if entries_below(positions, part) {
+    if ids_below(vertex_count(positions), part) {
         kept_triangle(positions, part, direction)
     } else {
         Located::Refused(Refusal::new(4))

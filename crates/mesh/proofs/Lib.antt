@@ -1,3 +1,6 @@
+pub mod IdsBelow
 pub mod Facts
 pub mod Neighbours
 pub mod Renumbered
+pub mod Falls
+pub mod Refusals

@@ -1,12 +1,12 @@
-// Rows 2 to 6 of document 01's table: what an operation asks of the mesh that it is lent, and of a permutation of its ids.
+// Rows 2 to 6 of document 01's table, with rows 17 and 18 of W-209: what an operation asks of the mesh that it is lent, and of a permutation
+// of its ids.
 ghost use mathlib.Core.Path.{_≡_};
 ghost use mathlib.Core.Bool.{true};
-ghost use mathlib.Core.List.{[]};
 ghost use Prim.Native.Nat.{suc, _*_, _+_, _≤_, _<_};
 ghost use lib.ListN.{length};
 ghost use Rattle.sequences.specs.Permutation.{isPermutation};
 ghost use Rattle.mesh.specs.Mesh.{meshOf, vertexCount, positionOf};
-ghost use Rattle.mesh.specs.Rows.{greatestCount, positionsFit, startsCounted, startsSpan, startsAscend, listsLimited, entriesBelow, positionsAdmissible, adjacencyRows, meshRows};
+ghost use Rattle.mesh.specs.Rows.{greatestCount, positionsFit, startsCounted, startsSpan, startsAscend, firstFall, listsLimited, idsBelow, listRows, positionsAdmissible, adjacencyRows, meshRows};
 use refusal::Refusal;
 use refusal::Verdict;
 use vector::Vector3;
@@ -43,43 +43,40 @@ pub fn positions_fit(positions: &[f64]) -> bool
 }
 
 // Row 3: the starts have their length.
-fn starts_counted(positions: &[f64], starts: &[u32]) -> bool
-    ensures { λ r. ⌜ r ≡ startsCounted (meshOf (now (positions .entry)) (now (starts .entry)) []) ⌝ }
+fn starts_counted(count: usize, starts: &[u32]) -> bool
+    requires { ⌜ count ≤ greatestCount ⌝ }
+    ensures { λ r. ⌜ r ≡ startsCounted count (now (starts .entry)) ⌝ }
 {
-    starts.len() == positions.len() / 3 + 1
+    starts.len() == count + 1
 }
 
-// Row 3: the starts begin at 0 and end at the entry count.
-fn starts_span(positions: &[f64], starts: &[u32], entries: &[u16]) -> bool
-    requires { ⌜ length (now starts) ≡ suc (vertexCount (now positions)) ⌝ }
-    ensures { λ r. ⌜ r ≡ startsSpan (meshOf (now (positions .entry)) (now (starts .entry)) (now (entries .entry))) ⌝ }
+// Row 17: the starts begin at 0 and end at the entry count.
+fn starts_span(count: usize, starts: &[u32], entries: &[u16]) -> bool
+    requires { ⌜ length (now starts) ≡ suc count ⌝ }
+    ensures { λ r. ⌜ r ≡ startsSpan count (now (starts .entry)) (now (entries .entry)) ⌝ }
 {
-    let count = positions.len() / 3;
     (starts[0] == 0) & (starts[count] as usize == entries.len())
 }
 
-// Row 3: no start falls.
-fn starts_ascend(positions: &[f64], starts: &[u32]) -> bool
-    requires { ⌜ length (now starts) ≡ suc (vertexCount (now positions)) ⌝ }
-    ensures { λ r. ⌜ r ≡ startsAscend (meshOf (now (positions .entry)) (now (starts .entry)) []) ⌝ }
+// Row 18: the index of the first start below the one before it, 0 where none falls.
+pub fn first_fall(starts: &[u32]) -> usize
+    ensures { λ r. ⌜ r ≡ firstFall (now (starts .entry)) ⌝ }
 {
-    let count = positions.len() / 3;
-    let mut vertex = 0;
-    while vertex < count {
-        if starts[vertex] > starts[vertex + 1] {
-            return false;
+    let mut i = 1;
+    while i < starts.len() {
+        if starts[i] < starts[i - 1] {
+            return i;
         }
-        vertex += 1;
+        i += 1;
     }
-    true
+    0
 }
 
 // Row 3: no neighbour list is over 32.
-fn lists_limited(positions: &[f64], starts: &[u32]) -> bool
-    requires { ⌜ length (now starts) ≡ suc (vertexCount (now positions)) ⌝ ∗ ⌜ startsAscend (meshOf (now positions) (now starts) []) ≡ true ⌝ }
-    ensures { λ r. ⌜ r ≡ listsLimited (meshOf (now (positions .entry)) (now (starts .entry)) []) ⌝ }
+fn lists_limited(count: usize, starts: &[u32]) -> bool
+    requires { ⌜ length (now starts) ≡ suc count ⌝ ∗ ⌜ startsAscend count (now starts) ≡ true ⌝ }
+    ensures { λ r. ⌜ r ≡ listsLimited count (now (starts .entry)) ⌝ }
 {
-    let count = positions.len() / 3;
     let mut vertex = 0;
     while vertex < count {
         if starts[vertex + 1] - starts[vertex] > LONGEST_LIST {
@@ -91,18 +88,41 @@ fn lists_limited(positions: &[f64], starts: &[u32]) -> bool
 }
 
 // Row 4.
-pub fn entries_below(positions: &[f64], entries: &[u16]) -> bool
-    ensures { λ r. ⌜ r ≡ entriesBelow (meshOf (now (positions .entry)) [] (now (entries .entry))) ⌝ }
+pub fn ids_below(count: usize, ids: &[u16]) -> bool
+    ensures { λ r. ⌜ r ≡ idsBelow count (now (ids .entry)) ⌝ }
 {
-    let count = positions.len() / 3;
     let mut i = 0;
-    while i < entries.len() {
-        if entries[i] as usize >= count {
+    while i < ids.len() {
+        if ids[i] as usize >= count {
             return false;
         }
         i += 1;
     }
     true
+}
+
+// Rows 3 and 4, 17 and 18 among them, of the neighbour lists of so many vertices.
+pub fn check_lists(count: usize, starts: &[u32], entries: &[u16]) -> Verdict
+    requires { ⌜ count ≤ greatestCount ⌝ }
+    ensures { λ r. ⌜ r ≡ listRows count (now (starts .entry)) (now (entries .entry)) ⌝ }
+{
+    if !starts_counted(count, starts) {
+        return Verdict::Refused(Refusal::new(3));
+    }
+    if !starts_span(count, starts, entries) {
+        return Verdict::Refused(Refusal::new(17));
+    }
+    let fall = first_fall(starts);
+    if fall != 0 {
+        return Verdict::Refused(Refusal::at(18, fall));
+    }
+    if !lists_limited(count, starts) {
+        return Verdict::Refused(Refusal::new(3));
+    }
+    if !ids_below(count, entries) {
+        return Verdict::Refused(Refusal::new(4));
+    }
+    Verdict::Passed
 }
 
 // Row 5.
@@ -128,22 +148,7 @@ pub fn check_adjacency(positions: &[f64], starts: &[u32], entries: &[u16]) -> Ve
     if !positions_fit(positions) {
         return Verdict::Refused(Refusal::new(2));
     }
-    if !starts_counted(positions, starts) {
-        return Verdict::Refused(Refusal::new(3));
-    }
-    if !starts_span(positions, starts, entries) {
-        return Verdict::Refused(Refusal::new(3));
-    }
-    if !starts_ascend(positions, starts) {
-        return Verdict::Refused(Refusal::new(3));
-    }
-    if !lists_limited(positions, starts) {
-        return Verdict::Refused(Refusal::new(3));
-    }
-    if !entries_below(positions, entries) {
-        return Verdict::Refused(Refusal::new(4));
-    }
-    Verdict::Passed
+    check_lists(vertex_count(positions), starts, entries)
 }
 
 // Rows 2 to 5, with which the grid's builder begins.

@@ -1,7 +1,7 @@
--- Laws of chains of rows: a chain passes exactly where each of its rows does. Assumes nothing.
+-- Laws of chains of rows: a chain passes exactly where each of its rows does, and what holds of each row's reason holds of every reason that the chain refuses with. Assumes nothing.
 use native.Mathlib.Omega.{arith}
 use Prim.Native.Nat.{ℕ}
-use mathlib.Core.Path.{_≡_, refl, ap}
+use mathlib.Core.Path.{_≡_, refl, sym, ap, subst}
 use mathlib.Core.Bool.{Bool, true, false}
 use Rattle.refusal.specs.declared.Refusal.{Refusal}
 use Rattle.refusal.specs.declared.Verdict.{Verdict}
@@ -30,8 +30,32 @@ pub answer-accepted : {A : Type 0} (v : Verdict) (refused : Refusal → A) (acce
 answer-accepted Passed refused accepted x never h = (refl, h)
 answer-accepted (Refused reason) refused accepted x never h = absurd (never reason h)
 
--- an answer that nothing accepted gives is a refusal's
-pub answer-refused : {A : Type 0} (v : Verdict) (refused : Refusal → A) (accepted : A) (reason : Refusal) → (accepted ≡ refused reason → ⊥) → ((other : Refusal) → refused other ≡ refused reason → other ≡ reason)
-    → answer v refused accepted ≡ refused reason → v ≡ Refused reason
-answer-refused Passed refused accepted reason never injective h = absurd (never h)
-answer-refused (Refused other) refused accepted reason never injective h = ap Refused (injective other h)
+-- an answer that tells a reason, which nothing accepted does, shows that the rows gave it
+pub answer-refused : {A : Type 0} (P : A → Type 0) (v : Verdict) (refused : Refusal → A) (accepted : A) (reason : Refusal) → (P accepted → ⊥) → ((other : Refusal) → P (refused other) → other ≡ reason)
+    → P (answer v refused accepted) → v ≡ Refused reason
+answer-refused P Passed refused accepted reason never tells h = absurd (never h)
+answer-refused P (Refused other) refused accepted reason never tells h = ap Refused (tells other h)
+
+-- ---- reasons: what holds of each row's own reason holds of the reason that a chain refuses with
+abbrev pub EachReason : (Refusal → Type 0) → Verdict → Type 0
+EachReason P v = (reason : Refusal) → v ≡ Refused reason → P reason
+
+module _ (P : Refusal → Type 0) where
+  pub reasons-passed : EachReason P Passed
+  reasons-passed reason h = absurd (refused-not-passed reason (sym h))
+
+  pub reasons-refused : (own : Refusal) → P own → EachReason P (Refused own)
+  reasons-refused own p reason h = subst P (let same : own ≡ reason = cc in same) p
+
+  pub reasons-row : (b : Bool) (own : Refusal) (next : Verdict) → (b ≡ false → P own) → (b ≡ true → EachReason P next) → EachReason P (row b own next)
+  reasons-row true own next mine rest = rest refl
+  reasons-row false own next mine rest = reasons-refused own (mine refl)
+
+  pub reasons-then : (v next : Verdict) → EachReason P v → EachReason P next → EachReason P (then v next)
+  reasons-then Passed next first rest = rest
+  reasons-then (Refused own) next first rest = first
+
+  -- the same of what an answer tells, where P of a reason gives Q of its answer
+  pub reasons-answer : {A : Type 0} (Q : A → Type 0) (v : Verdict) (refused : Refusal → A) (accepted : A) → EachReason P v → ((own : Refusal) → P own → Q (refused own)) → Q accepted → Q (answer v refused accepted)
+  reasons-answer Q Passed refused accepted each tells other = other
+  reasons-answer Q (Refused own) refused accepted each tells other = tells own (each own refl)

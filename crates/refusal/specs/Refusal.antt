@@ -7,7 +7,11 @@ use Rattle.refusal.specs.declared.Verdict.the-variants.{Passed, Refused}
 
 -- The refusal with a row's number.
 abbrev pub refusal : ℕ → Refusal
-refusal number = record { number = number }
+refusal number = record { number = number; index = 0 }
+
+-- The same with the index that the row carries (W-209).
+abbrev pub refusalAt : ℕ → ℕ → Refusal
+refusalAt number index = record { number = number; index = index }
 
 -- One row: where what it asks for holds the next rows are tried, and otherwise it refuses.
 abbrev pub row : Bool → Refusal → Verdict → Verdict

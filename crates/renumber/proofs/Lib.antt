@@ -6,3 +6,4 @@ pub mod Accepted
 pub mod RenumberedMesh
 pub mod Calls
 pub mod RenumberedBelow
+pub mod Refusals

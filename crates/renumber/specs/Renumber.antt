@@ -63,7 +63,7 @@ pub record RenumberOutcome : Type 0 where
   pub mesh : Mesh
   pub values : List Float
 
--- Rows 2, 3, 4, 6, 7, 8.
+-- The mesh rows 2 to 4, then 6, 7, 8.
 unfoldable pub renumberRows : Mesh → List Float → Call → Verdict
 renumberRows m values call = then (adjacencyRows m) (callRows (count m) (longestLength m values) call)
 

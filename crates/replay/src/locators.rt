@@ -1,4 +1,5 @@
 // Both locators on the lattice of a frequency.
+use crate::meshes;
 use crate::places::F64_BEFORE;
 use crate::places::U16_BEFORE;
 use crate::places::U32_BEFORE;
@@ -37,7 +38,7 @@ fn direction(
     )
 }
 
-// The first record ends with the grid's refusal and its side. Each record behind it is a direction.
+// The first record ends with the builder's answer. Each record behind it is a direction.
 fn replay_records(
     text: &[u8],
     cursor: Cursor,
@@ -51,8 +52,7 @@ fn replay_records(
     triples: &[u16],
 ) -> Tally {
     let side = answer.side;
-    let answered = records::expect_u32(text, cursor, answer.refusal);
-    let first = records::expect_u32(text, answered, side);
+    let first = meshes::expect_built(text, cursor, answer);
     let mut end = records::line_end(text, 0);
     let mut tally = Tally::none().counted(first, end);
     while end < text.len() {

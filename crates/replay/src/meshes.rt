@@ -5,7 +5,7 @@ use crate::places::U32_BEFORE;
 use c_api::BuildAnswer;
 use records::Cursor;
 
-// The refusal, the entries read, and both slices after the call.
+// The refusal, the entries read, the index, and both slices after the call.
 fn replay_walk(
     text: &[u8],
     cursor: Cursor,
@@ -19,7 +19,8 @@ fn replay_walk(
     let answer = c_api::koshirga_walk(positions, starts, entries, order, queue);
     let answered = records::expect_u32(text, cursor, answer.refusal);
     let read = records::expect_u32(text, answered, answer.entries_read);
-    let behind_order = records::expect_u32s(text, read, order, hashed);
+    let index = records::expect(text, read, answer.index as u64);
+    let behind_order = records::expect_u32s(text, index, order, hashed);
     records::expect_u32s(text, behind_order, queue, hashed)
 }
 
@@ -72,7 +73,14 @@ pub fn walk(
     )
 }
 
-// The refusal, the side, and the four slices after the call.
+// The refusal, the side, the index.
+pub fn expect_built(text: &[u8], cursor: Cursor, answer: BuildAnswer) -> Cursor {
+    let answered = records::expect_u32(text, cursor, answer.refusal);
+    let side = records::expect_u32(text, answered, answer.side);
+    records::expect(text, side, answer.index as u64)
+}
+
+// The builder's answer, and the four slices after the call.
 fn expect_grid(
     text: &[u8],
     cursor: Cursor,
@@ -83,9 +91,8 @@ fn expect_grid(
     triangle_starts: &[u32],
     triples: &[u16],
 ) -> Cursor {
-    let answered = records::expect_u32(text, cursor, answer.refusal);
-    let side = records::expect_u32(text, answered, answer.side);
-    let behind_cell_starts = records::expect_u32s(text, side, cell_starts, hashed);
+    let built = expect_built(text, cursor, answer);
+    let behind_cell_starts = records::expect_u32s(text, built, cell_starts, hashed);
     let behind_cell_ids = records::expect_u16s(text, behind_cell_starts, cell_ids, hashed);
     let behind_starts = records::expect_u32s(text, behind_cell_ids, triangle_starts, hashed);
     records::expect_u16s(text, behind_starts, triples, hashed)

@@ -50,20 +50,22 @@ fn expect_analytic(text: &[u8], cursor: Cursor, answer: AnalyticAnswer) -> Curso
     expect_weights(text, triple, answer.u, answer.v, answer.w)
 }
 
-// The refusal, the id, the number of candidates, the distance.
+// The refusal, the id, the number of candidates, the distance, the index.
 fn expect_nearest(text: &[u8], cursor: Cursor, answer: NearestAnswer) -> Cursor {
     let answered = records::expect_u32(text, cursor, answer.refusal);
     let id = records::expect_u32(text, answered, answer.id);
     let candidates = records::expect_u32(text, id, answer.candidates);
-    records::expect_f64(text, candidates, answer.distance)
+    let distance = records::expect_f64(text, candidates, answer.distance);
+    records::expect(text, distance, answer.index as u64)
 }
 
-// The refusal, three ids, three weights, the least of them.
+// The refusal, three ids, three weights, the least of them, the index.
 fn expect_located(text: &[u8], cursor: Cursor, answer: LocatedAnswer) -> Cursor {
     let answered = records::expect_u32(text, cursor, answer.refusal);
     let triple = expect_triple(text, answered, answer.first, answer.second, answer.third);
     let weights = expect_weights(text, triple, answer.u, answer.v, answer.w);
-    records::expect_f64(text, weights, answer.least)
+    let least = records::expect_f64(text, weights, answer.least);
+    records::expect(text, least, answer.index as u64)
 }
 
 // Location and nearest vertex by an id table.

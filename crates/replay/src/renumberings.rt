@@ -24,7 +24,7 @@ fn scratch_fits(
         & records::all_f64s(held, F64_BEFORE)
 }
 
-// The refusal.
+// The refusal and the index.
 fn call(
     text: &[u8],
     cursor: Cursor,
@@ -40,7 +40,7 @@ fn call(
     done: &mut [u8],
     held: &mut [f64],
 ) -> Cursor {
-    let refusal = c_api::koshirga_renumber(
+    let answer = c_api::koshirga_renumber(
         positions,
         starts,
         entries,
@@ -53,8 +53,9 @@ fn call(
         done,
         held,
     );
-    let fits = scratch_fits(refusal, sources, old_starts, old_entries, done, held);
-    records::expect_u32(text, cursor, refusal).only_if(fits)
+    let fits = scratch_fits(answer.refusal, sources, old_starts, old_entries, done, held);
+    let answered = records::expect_u32(text, cursor, answer.refusal);
+    records::expect(text, answered, answer.index as u64).only_if(fits)
 }
 
 // The entries a vertex, and the lengths of the scratch slices.

@@ -1,6 +1,6 @@
 -- Laws of tests and sums over the numbers below n. Assumes nothing.
 -- A loop that tests each index: `all-below-intro` or `all-below-suc` when it passes, `all-below-fails` when it refuses. A passed test gives its fact by `all-below-at`.
--- A search for one that passes: `some-below-intro`, `some-below-fails`, `some-below-at`.
+-- A search for one that passes: `some-below-intro`, `some-below-fails`, `some-below-at`. A search for the first that fails: `first-failing-at` when it is found, and what it is by `first-failing`.
 -- Marks kept as numbers: `nonzero-marked`, `zero-unmarked`, `marked-by-set`. A sum in another order: `sum-bijection` (Permutation); a one-to-one choice: `sum-injection`, and from it `pigeonhole`.
 use Prim.Native.Nat.{ℕ, zero, suc, _+_, _*_, _≤_, _<_}
 use native.Mathlib.Nat.{not-suc-le-zero, eq-or-lt-of-le, le-of-suc-le-suc, mul-add}
@@ -14,7 +14,7 @@ use lib.Dec.{ltb, eqb}
 use lib.ListN.{length, getD, set}
 use lib.Seq.{getD-set-same, getD-set-other}
 use borrow.Author.Tests.{ltb-true, ltb-false, eq-eqb, ne-eqb, eqb-true, eqb-false, not-true, not-false}
-use Rattle.sequences.specs.Range.{allBelow, someBelow, sumBelow, Updated, nonzeroAt}
+use Rattle.sequences.specs.Range.{allBelow, firstFailing, someBelow, sumBelow, Updated, nonzeroAt}
 
 -- a Boolean is one of two
 pub true-or-false : (b : Bool) → (b ≡ true) ⊎ (b ≡ false)
@@ -239,3 +239,28 @@ pub sum-multiple : (c : ℕ) (f : ℕ → ℕ) (n : ℕ) → sumBelow (λ i. c *
 unfolding sumBelow
 sum-multiple c f zero = omega arith
 sum-multiple c f (suc n) = let e = sum-multiple c f n in let d = mul-add c (sumBelow f n) (f n) in omega arith
+
+-- ---- the first that fails
+pub first-failing-at : (p : ℕ → Bool) (n i : ℕ) → i < n → allBelow p i ≡ true → p i ≡ false → firstFailing p n ≡ i
+unfolding firstFailing
+first-failing-at p zero i lt all fails = absurd (not-suc-le-zero lt)
+first-failing-at p (suc n) i lt all fails = go (last-or-below i n lt) (first-failing-at p n i)
+  where
+    go : (i ≡ n) ⊎ (i < n) → (i < n → allBelow p i ≡ true → p i ≡ false → firstFailing p n ≡ i) → cond (allBelow p n) (cond (p n) (suc n) n) (firstFailing p n) ≡ i
+    go (inl e) earlier = rw (← e, all, fails) refl
+    go (inr below) earlier = rw (all-below-fails p n i below fails) (earlier below all fails)
+
+-- where one fails, p holds at each number before the first that does, and fails there
+pub first-failing : (p : ℕ → Bool) (n : ℕ) → allBelow p n ≡ false → (firstFailing p n < n) × (allBelow p (firstFailing p n) ≡ true) × (p (firstFailing p n) ≡ false)
+unfolding allBelow firstFailing
+first-failing p zero h = let z : _≡_ {A = ℕ} 0 1 = cc in absurd (let y : ⊥ = omega arith in y)
+first-failing p (suc n) h = go (true-or-false (allBelow p n)) (first-failing p n)
+  where
+    First : ℕ → ℕ → Type 0
+    First k limit = (k < limit) × (allBelow p k ≡ true) × (p k ≡ false)
+
+    go : (allBelow p n ≡ true) ⊎ (allBelow p n ≡ false) → (allBelow p n ≡ false → First (firstFailing p n) n) → First (cond (allBelow p n) (cond (p n) (suc n) n) (firstFailing p n)) (suc n)
+    go (inl all) earlier =
+        let fails : p n ≡ false = (rw all at h) in
+        rw (all, fails) (omega arith, all, fails)
+    go (inr some) earlier = let r = earlier some in rw some (omega arith, r .1, r .2)

@@ -3,7 +3,7 @@
 use Prim.Native.Nat.{ℕ, zero, suc, _+_, _<_}
 use mathlib.Core.Path.{_≡_}
 use mathlib.Core.Logic.{_≢_}
-use mathlib.Core.Bool.{Bool, true, false, not, _&&_, _||_}
+use mathlib.Core.Bool.{Bool, true, false, not, _&&_, _||_, cond}
 use mathlib.Core.List.{List}
 use lib.Dec.{eqb}
 use lib.ListN.{getD}
@@ -12,6 +12,11 @@ use lib.ListN.{getD}
 unfoldable pub allBelow : (ℕ → Bool) → ℕ → Bool
 allBelow p zero = true
 allBelow p (suc n) = allBelow p n && p n
+
+-- the first number below n at which p fails; n where there is none
+unfoldable pub firstFailing : (ℕ → Bool) → ℕ → ℕ
+firstFailing p zero = 0
+firstFailing p (suc n) = cond (allBelow p n) (cond (p n) (suc n) n) (firstFailing p n)
 
 -- p holds at some number below n
 unfoldable pub someBelow : (ℕ → Bool) → ℕ → Bool

@@ -1,7 +1,7 @@
--- What a walk's outcome has. Accepted: a permutation, its inverse in the queue, and all entries read (`accepted`). Refused by row 13: the reached ids are numbered, no others (`unreached-numbered`). Assumes nothing.
-use Prim.Native.Nat.{ℕ, _≤_, _<_}
+-- What a walk's outcome has. Accepted: a permutation, its inverse in the queue, and all entries read (`accepted`). Refused by row 13: the reached ids are numbered, no others (`unreached-numbered`). Refused by any row: what the index tells (`walk-index`). Assumes nothing.
+use Prim.Native.Nat.{ℕ, _<_}
 use native.Mathlib.Omega.{arith}
-use mathlib.Core.Path.{_≡_, refl, sym, ap, _∙_}
+use mathlib.Core.Path.{_≡_, refl, sym, ap, subst, _∙_}
 use mathlib.Core.Logic.{_≢_}
 use mathlib.Core.Bool.{Bool, true, false}
 use mathlib.Core.List.{List, List·Memᴰ}
@@ -15,15 +15,14 @@ use Rattle.sequences.proofs.Tabulate.{take-overwrite, overwrite-at}
 use Rattle.sequences.proofs.Starts.{length-concatenate}
 use Rattle.sequences.proofs.Permutation.{is-permutation-complete, permutation-bijection}
 use Rattle.refusal.specs.declared.Refusal.{Refusal}
-use Rattle.refusal.specs.declared.Verdict.{Verdict}
 use Rattle.refusal.specs.declared.Verdict.the-variants.{Passed}
-use Rattle.refusal.specs.declared.Verdict.the-variants as verdict
 use Rattle.refusal.specs.Refusal.{refusal, row, answer}
-use Rattle.refusal.proofs.Rows.{refused-not-passed}
+use Rattle.refusal.proofs.Rows.{EachReason}
 use Rattle.mesh.specs.Mesh.{Mesh, count, neighbours}
-use Rattle.mesh.specs.Rows.{adjacencyRows, positionsFit, startsCounted, startsSpan, startsAscend, listsLimited, entriesBelow}
+use Rattle.mesh.specs.Rows.{adjacencyRows}
 use Rattle.mesh.proofs.Facts.{adjacency-facts}
 use Rattle.mesh.proofs.Neighbours.{neighbour-below, entries-of-neighbours}
+use Rattle.mesh.proofs.Refusals.{IndexTold, told-none, adjacency-index, adjacency-reasons}
 use Rattle.walk.specs.declared.Walk.the-variants.{Refused, Walked}
 use Rattle.walk.specs.Walk.{Visit, breadthFirst, unreached, orderOf, WalkOutcome, walked, walkOutcome}
 use Rattle.walk.specs.Buffers.{DistinctIds}
@@ -69,18 +68,6 @@ pub record PartialWalk (n : ℕ) (ids old order queue : List ℕ) : Type 0 where
   pub reached-numbered : (v : ℕ) → List·Memᴰ v ids → (at order v < length ids) × (at ids (at order v) ≡ v)
   pub others-not : (v : ℕ) → v < n → (List·Memᴰ v ids → ⊥) → at order v ≡ unreached
   pub queued : queue ≡ overwrite ids old
-
--- rows 2 to 4 refuse with these numbers
-row-reason : (b : Bool) (k : ℕ) (next : Verdict) (reason : Refusal) → k ≤ 4 → (next ≡ verdict.Refused reason → reason .number ≤ 4) → row b (refusal k) next ≡ verdict.Refused reason → reason .number ≤ 4
-row-reason true k next reason le rest e = rest e
-row-reason false k next reason le rest e = let q : k ≡ reason .number = cc in omega arith
-
-adjacency-reason : (m : Mesh) (reason : Refusal) → adjacencyRows m ≡ verdict.Refused reason → reason .number ≤ 4
-unfolding adjacencyRows
-adjacency-reason m reason e =
-    row-reason (positionsFit (m .positions)) 2 _ reason (omega arith) (λ e. row-reason (startsCounted m) 3 _ reason (omega arith) (λ e.
-    row-reason (startsSpan m) 3 _ reason (omega arith) (λ e. row-reason (startsAscend m) 3 _ reason (omega arith) (λ e.
-    row-reason (listsLimited m) 3 _ reason (omega arith) (λ e. row-reason (entriesBelow m) 4 Passed reason (omega arith) (λ e. absurd (refused-not-passed reason (sym e))) e) e) e) e) e) e
 
 module _ (m : Mesh) (order queue : List ℕ) where
   different : {A : Type 0} {reason : Refusal} {read : ℕ} → Refused reason ≡ Walked read → A
@@ -129,12 +116,15 @@ module _ (m : Mesh) (order queue : List ℕ) where
   unfolding walked
   unreached-numbered e = go (found m order queue)
     where
-      other : {A : Type 0} (reason : Refusal) → Refused reason ≡ Refused (refusal 13) → reason .number < 13 → A
-      other reason a lt = let q : reason .number ≡ 13 = cc in absurd (let y : ⊥ = omega arith in y)
+      rows-not-13 : EachReason (λ reason. reason .number ≢ 13) (adjacencyRows m)
+      rows-not-13 = adjacency-reasons (λ reason. reason .number ≢ 13) m (λ z. omega arith) (λ z. omega arith) (λ z. omega arith) (λ falls z. omega arith) (λ z. omega arith)
+
+      other : {A : Type 0} (reason : Refusal) → Refused reason ≡ Refused (refusal 13) → reason .number ≢ 13 → A
+      other reason a differs = absurd (differs cc)
 
       go : Found m order queue → PartialWalk (count m) (visitOf m .queue) queue (walkOutcome m order queue .order) (walkOutcome m order queue .queue)
-      go (rows-refuse reason p o) = other reason (ap (λ (w : WalkOutcome). w .answered) o ∙ e) (let r = adjacency-reason m reason p in omega arith)
-      go (short p o) = other (refusal 8) (ap (λ (w : WalkOutcome). w .answered) o ∙ e) (omega arith)
+      go (rows-refuse reason p o) = other reason (ap (λ (w : WalkOutcome). w .answered) o ∙ e) (rows-not-13 reason p)
+      go (short p o) = other (refusal 8) (ap (λ (w : WalkOutcome). w .answered) o ∙ e) (λ z. omega arith)
       go (made-of p o) =
           let ids = queue-ids m p in
           let most = ids-at-most ids in
@@ -148,3 +138,20 @@ module _ (m : Mesh) (order queue : List ℕ) where
             others-not = λ v lt absent. number v lt ∙ number-of-absent (count m) (visitOf m .queue) v lt absent;
             queued = refl;
           })
+
+  -- 18 carries the index of the first start that falls, every other refusal 0
+  pub walk-index : (reason : Refusal) → walkOutcome m order queue .answered ≡ Refused reason → IndexTold (m .starts) reason
+  unfolding walked
+  walk-index reason e = go (found m order queue)
+    where
+      told : (own : Refusal) → IndexTold (m .starts) own → Refused own ≡ Refused reason → IndexTold (m .starts) reason
+      told own t a = subst (IndexTold (m .starts)) (let same : own ≡ reason = cc in same) t
+
+      ended : (b : Bool) → answer (row b (refusal 13) Passed) Refused (Walked (visitOf m .entriesRead)) ≡ Refused reason → IndexTold (m .starts) reason
+      ended true a = different (sym a)
+      ended false a = told (refusal 13) (told-none (m .starts) 13 (λ z. omega arith)) a
+
+      go : Found m order queue → IndexTold (m .starts) reason
+      go (rows-refuse own p o) = told own (adjacency-index m own p) (ap (λ (w : WalkOutcome). w .answered) o ∙ e)
+      go (short p o) = told (refusal 8) (told-none (m .starts) 8 (λ z. omega arith)) (ap (λ (w : WalkOutcome). w .answered) o ∙ e)
+      go (made-of p o) = ended (eqb (length (visitOf m .queue)) (count m)) (ap (λ (w : WalkOutcome). w .answered) o ∙ e)

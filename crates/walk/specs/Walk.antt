@@ -77,7 +77,7 @@ walked m order queue =
     walkLeft (answer (row (eqb (length (visit .queue)) (count m)) (refusal 13) Passed) Refused (Walked (visit .entriesRead)))
     (overwrite (orderOf (count m) (visit .queue)) order) (overwrite (visit .queue) queue)
 
--- Rows 2, 3, 4, 8, 13. The first four change nothing.
+-- The mesh rows 2 to 4, then 8 and 13. All but the last change nothing.
 unfoldable pub walkOutcome : Mesh → List ℕ → List ℕ → WalkOutcome
 walkOutcome m order queue =
     answer (then (adjacencyRows m) (row (walkFits (count m) order queue) (refusal 8) Passed))

@@ -92,7 +92,7 @@ pub fn breadth_first(starts: &[u32], entries: &[u16], order: &mut [u32], queue: 
 }
 
 // The breadth-first order of a mesh's vertices: the new id at each old one, and in the queue the old id at each new one.
-// Rows 2, 3, 4 and 8 change nothing; row 13 leaves what was reached.
+// The mesh rows 2 to 4 and row 8 change nothing; row 13 leaves what was reached.
 pub fn bfs_vertex_permutation(
     positions: &[f64],
     starts: &[u32],

@@ -22,7 +22,7 @@ pub fn checks() -> Vec<Check> {
 }
 
 /// An expected refusal is that of a row's text; what is accepted is the Rust's.
-pub fn judge_of<T>(expected: &Result<T, u32>) -> Judge {
+pub fn judge_of<T, R>(expected: &Result<T, R>) -> Judge {
     match expected {
         Ok(_) => Judge::Rust,
         Err(_) => Judge::Rows,
@@ -93,10 +93,8 @@ fn flag_sums(tally: &mut Tally) {
             }
         }
     }
-    for (count, case) in reached.iter().zip(["3 by flags 1 and 2", "4", "5"]) {
-        tally.compare(Judge::Inputs, *count > 0, || {
-            format!("no direction has the sum {case}")
-        });
+    for (count, case) in reached.into_iter().zip(["3 by flags 1 and 2", "4", "5"]) {
+        tally.reached(format!("the sum {case}"), count);
     }
 }
 

@@ -1,5 +1,6 @@
 //! What a check is, and how the checks are run and counted.
 
+use crate::rows::Reason;
 use std::collections::BTreeMap;
 use std::fmt;
 use std::sync::atomic::{AtomicUsize, Ordering};
@@ -74,6 +75,7 @@ pub struct Tally {
     judged: Judged,
     differences: u64,
     described: Vec<String>,
+    reached: Vec<(String, u64)>,
 }
 
 impl Tally {
@@ -92,6 +94,15 @@ impl Tally {
             }
         }
     }
+
+    /// How often the inputs came to a case that a check is about. Never is a difference: then the
+    /// inputs are too tame.
+    pub fn reached(&mut self, case: String, count: u64) {
+        self.compare(Judge::Inputs, count > 0, || {
+            format!("no input reaches {case}")
+        });
+        self.reached.push((case, count));
+    }
 }
 
 /// How often each row was the expected refusal.
@@ -99,18 +110,38 @@ impl Tally {
 pub struct Rows(BTreeMap<u32, u64>);
 
 impl Rows {
-    pub fn count(&mut self, row: Option<u32>) {
-        if let Some(number) = row {
-            *self.0.entry(number).or_default() += 1;
+    pub fn count(&mut self, row: Option<Reason>) {
+        if let Some(reason) = row {
+            *self.0.entry(reason.number).or_default() += 1;
         }
     }
 
-    /// A row that no input reached is a difference: then the inputs are too tame.
     pub fn all_reached(&self, tally: &mut Tally, rows: &[u32]) {
         for row in rows {
-            tally.compare(Judge::Inputs, self.0.contains_key(row), || {
-                format!("no input is refused by row {row}")
-            });
+            let count = self.0.get(row).copied().unwrap_or(0);
+            tally.reached(format!("row {row}"), count);
+        }
+    }
+}
+
+/// How often each kind of input was met.
+#[derive(Default)]
+pub struct Kinds(Vec<(&'static str, u64)>);
+
+impl Kinds {
+    /// An input: whether it is of each kind. All inputs have the same kinds in the same order.
+    pub fn count(&mut self, kinds: &[(&'static str, bool)]) {
+        if self.0.is_empty() {
+            self.0 = kinds.iter().map(|&(kind, _)| (kind, 0)).collect();
+        }
+        for ((_, count), &(_, met)) in self.0.iter_mut().zip(kinds) {
+            *count += u64::from(met);
+        }
+    }
+
+    pub fn all_reached(&self, tally: &mut Tally) {
+        for &(kind, count) in &self.0 {
+            tally.reached(kind.to_string(), count);
         }
     }
 }
@@ -216,6 +247,9 @@ fn print_line(topic: &str, check: &Check, tally: &Tally, time: Duration) {
         "{topic:<10}  {:<30}  {count:>11}  {differences:>11}  {seconds:>7.2}",
         check.name
     );
+    for (case, count) in &tally.reached {
+        println!("    reached: {case:<57} {count:>9}");
+    }
     for description in &tally.described {
         println!("    differs: {description}");
     }

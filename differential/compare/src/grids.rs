@@ -1,14 +1,15 @@
 //! The grids of all 80 lattices and of random meshes beside the Rust's, and the builder's refusals
 //! beside the rows' text.
 
-use crate::check::{Check, Judge, Rows, Tally};
+use crate::check::{Check, Judge, Kinds, Rows, Tally};
 use crate::directions::row_9;
 use crate::meshes::{Flat, Lattice, Lists, FREQUENCIES};
 use crate::patterns::Random;
 use crate::queries::Slices;
-use crate::walk::{adjacency_row, damage, lists_of};
+use crate::rows::{adjacency_row, by_hand, damage, kinds_of_starts, Reason};
+use crate::walk::lists_of;
 use icotable_oracle as rust;
-use koshirga::{GridMut, Refusal, Vector3};
+use koshirga::{GridMut, Vector3};
 
 /// Random meshes, and damaged ones.
 const MESHES: usize = 20_000;
@@ -17,6 +18,7 @@ pub fn checks() -> Vec<Check> {
     vec![
         Check::new("80 lattices", lattices),
         Check::new("random meshes", random_meshes),
+        Check::new("starts by hand", starts_by_hand),
         Check::new("refusals", refusals),
     ]
 }
@@ -39,14 +41,14 @@ fn before(lengths: [usize; 4]) -> Lent {
     }
 }
 
-fn built(mesh: &Flat, lent: &mut Lent) -> Result<u32, u32> {
+fn built(mesh: &Flat, lent: &mut Lent) -> Result<u32, Reason> {
     let grid = GridMut {
         cell_starts: &mut lent.cell_starts,
         cell_ids: &mut lent.cell_ids,
         triangle_starts: &mut lent.triangle_starts,
         triples: &mut lent.triples,
     };
-    koshirga::build_grid(mesh.as_mesh(), grid).map_err(Refusal::number)
+    koshirga::build_grid(mesh.as_mesh(), grid).map_err(Reason::from)
 }
 
 fn needed(grid: &Slices) -> [usize; 4] {
@@ -103,6 +105,11 @@ pub fn row_5(mesh: &Flat) -> bool {
         .any(|p| row_9(Vector3::new(p[0], p[1], p[2])))
 }
 
+/// Which row is to refuse a mesh, before the lengths of the slices matter.
+pub fn mesh_row(mesh: &Flat) -> Option<Reason> {
+    adjacency_row(mesh).or_else(|| row_5(mesh).then_some(Reason::row(5)))
+}
+
 fn random_meshes(tally: &mut Tally) {
     let mut random = Random::new(81);
     for _ in 0..MESHES {
@@ -114,10 +121,25 @@ fn random_meshes(tally: &mut Tally) {
     }
 }
 
-/// Rows 2, 3, 4, 5 and 8 leave all slices as they were. Where no row holds the grid is the Rust's.
+/// The rows' reading and the engine, both held to what is known by hand.
+fn starts_by_hand(tally: &mut Tally) {
+    for (mesh, reason) in by_hand() {
+        let row = mesh_row(&mesh);
+        let lent = before([100; 4]);
+        let mut ours = lent.clone();
+        let answer = built(&mesh, &mut ours);
+        let same = row == Some(reason) && answer == Err(reason) && ours == lent;
+        tally.compare(Judge::Rows, same, || {
+            format!("grid of {mesh:?}: {answer:?}, by hand {reason:?}, rows {row:?}")
+        });
+    }
+}
+
+/// Rows 2, 3, 17, 18, 4, 5 and 8 leave all slices as they were. Where no row holds the grid is the
+/// Rust's.
 fn refusals(tally: &mut Tally) {
     let mut random = Random::new(82);
-    let mut rows = Rows::default();
+    let (mut rows, mut kinds) = (Rows::default(), Kinds::default());
     for _ in 0..MESHES {
         let mut flat = Lists::random(&mut random).flat();
         for _ in 0..random.below(3) {
@@ -127,7 +149,7 @@ fn refusals(tally: &mut Tally) {
             let at = random.below(flat.positions.len() as u64) as usize;
             flat.positions[at] = [f64::NAN, f64::INFINITY, 1e7, -2e6][random.below(4) as usize];
         }
-        let row = adjacency_row(&flat).or_else(|| row_5(&flat).then_some(5));
+        let row = mesh_row(&flat);
         let grid = row.is_none().then(|| {
             rust_grid(&Lists {
                 vertices: flat
@@ -141,11 +163,12 @@ fn refusals(tally: &mut Tally) {
         let places = grid.as_ref().map_or([40; 4], needed);
         let short = random.below(8) as usize;
         let lengths = [0, 1, 2, 3].map(|i| places[i].saturating_sub(usize::from(short == i)));
-        let row = row.or((lengths != places).then_some(8));
+        let row = row.or((lengths != places).then_some(Reason::row(8)));
         let lent = before(lengths);
         let mut ours = lent.clone();
         let answer = built(&flat, &mut ours);
         rows.count(row);
+        kinds.count(&kinds_of_starts(&flat, row));
         let (judge, same) = match (row, &grid) {
             (None, Some(grid)) => (
                 Judge::Rust,
@@ -157,5 +180,6 @@ fn refusals(tally: &mut Tally) {
             format!("grid of {flat:?} in {lengths:?} places: {answer:?}, row {row:?}")
         });
     }
-    rows.all_reached(tally, &[2, 3, 4, 5, 8]);
+    rows.all_reached(tally, &[2, 3, 17, 18, 4, 5, 8]);
+    kinds.all_reached(tally);
 }

@@ -22,6 +22,7 @@ mod patterns;
 mod queries;
 mod record;
 mod renumber;
+mod rows;
 mod vectors;
 mod walk;
 mod weights;

@@ -2,13 +2,14 @@
 //! beside a reading of document 01's checks.
 
 use crate::analytic::{judge_of, same_weights};
-use crate::check::{same, Check, Judge, Rows, Tally};
+use crate::check::{same, Check, Judge, Kinds, Rows, Tally};
 use crate::directions::{row_9, rust_of, Directions};
 use crate::meshes::{Lattice, Lists, FREQUENCIES};
 use crate::patterns::Random;
+use crate::rows::Reason;
 use crate::weights::least_by_the_text;
 use icotable_oracle as rust;
-use koshirga::{Located, Nearest, Refusal, Vector3, Weights};
+use koshirga::{Located, Nearest, Vector3, Weights};
 
 /// Directions of each frequency.
 const DIRECTIONS: usize = 260_000;
@@ -70,8 +71,8 @@ impl Slices {
 
 /// What both queries are to answer.
 pub struct Answers {
-    pub nearest: Result<Nearest, u32>,
-    pub located: Result<Located, u32>,
+    pub nearest: Result<Nearest, Reason>,
+    pub located: Result<Located, Reason>,
 }
 
 fn located(face: [usize; 3], [u, v, w]: [f64; 3]) -> Located {
@@ -87,8 +88,8 @@ fn located(face: [usize; 3], [u, v, w]: [f64; 3]) -> Located {
 /// from its grid.
 pub fn rust_answers(slices: &Slices, grid: &rust::FaceGrid, v: Vector3) -> Answers {
     let refused = |number| Answers {
-        nearest: Err(number),
-        located: Err(number),
+        nearest: Err(Reason::row(number)),
+        located: Err(Reason::row(number)),
     };
     if row_9(v) {
         return refused(9);
@@ -116,16 +117,20 @@ pub fn rust_answers(slices: &Slices, grid: &rust::FaceGrid, v: Vector3) -> Answe
 fn our_answers(slices: &Slices, v: Vector3) -> Answers {
     let grid = slices.as_grid();
     Answers {
-        nearest: grid.find_nearest_vertex(v).map_err(Refusal::number),
-        located: grid.locate(v).map_err(Refusal::number),
+        nearest: grid.find_nearest_vertex(v).map_err(Reason::from),
+        located: grid.locate(v).map_err(Reason::from),
     }
 }
 
-/// Whether both are refused by one row, or both accepted and alike.
-fn same_result<T>(x: &Result<T, u32>, y: &Result<T, u32>, alike: impl Fn(&T, &T) -> bool) -> bool {
+/// Whether both are refused for one reason, or both accepted and alike.
+fn same_result<T>(
+    x: &Result<T, Reason>,
+    y: &Result<T, Reason>,
+    alike: impl Fn(&T, &T) -> bool,
+) -> bool {
     match (x, y) {
         (Ok(x), Ok(y)) => alike(x, y),
-        (Err(number), Err(other)) => number == other,
+        (Err(reason), Err(other)) => reason == other,
         _ => false,
     }
 }
@@ -194,12 +199,13 @@ fn directions(tally: &mut Tally, parity: usize) {
 /// Document 01: "A grid query checks count, positions and g against the count (2), the lengths of
 /// both start lists (3), the direction (9); then in its cell a part that falls or runs past the
 /// ids (3), emptiness (11), an id (4); for a triangle the same at the nearest vertex (3, 4), then
-/// 12."
+/// 12." W-209: "A query never returns 17; it tries the part read for falling (18), then for running
+/// past the ids, still 3."
 pub fn answers_by_the_text(slices: &Slices, v: Vector3) -> Answers {
     match nearest_by_the_text(slices, v) {
-        Err(number) => Answers {
-            nearest: Err(number),
-            located: Err(number),
+        Err(reason) => Answers {
+            nearest: Err(reason),
+            located: Err(reason),
         },
         Ok(nearest) => Answers {
             located: located_by_the_text(slices, v, nearest.id as usize),
@@ -208,15 +214,16 @@ pub fn answers_by_the_text(slices: &Slices, v: Vector3) -> Answers {
     }
 }
 
-fn refuse_where(holds: bool, number: u32) -> Result<(), u32> {
+fn refuse_where(holds: bool, number: u32) -> Result<(), Reason> {
     if holds {
-        Err(number)
+        Err(Reason::row(number))
     } else {
         Ok(())
     }
 }
 
-fn nearest_by_the_text(slices: &Slices, v: Vector3) -> Result<Nearest, u32> {
+/// The cell of a direction, behind the checks of the grid's lengths and of the direction.
+fn cell_by_the_text(slices: &Slices, v: Vector3) -> Result<usize, Reason> {
     let places = slices.positions.len();
     let count = places / 3;
     refuse_where(places == 0 || places % 3 != 0 || count > 65_536, 2)?;
@@ -231,9 +238,25 @@ fn nearest_by_the_text(slices: &Slices, v: Vector3) -> Result<Nearest, u32> {
         let g = side as f64;
         (x.mul_add(0.5, 0.5) * g).clamp(0.0, g - 1.0) as usize
     };
-    let cell = face * side * side + across(u) * side + across(w);
-    let [start, end] = [cell, cell + 1].map(|at| slices.cell_starts[at] as usize);
-    refuse_where(start > end || end > slices.cell_ids.len(), 3)?;
+    Ok(face * side * side + across(u) * side + across(w))
+}
+
+/// The part that is read of a list: from one start to the next, which is the one that falls.
+fn part_by_the_text(starts: &[u32], at: usize) -> Result<[usize; 2], Reason> {
+    let part = [at, at + 1].map(|at| starts[at] as usize);
+    if part[1] < part[0] {
+        Err(Reason::fall(at + 1))
+    } else {
+        Ok(part)
+    }
+}
+
+fn nearest_by_the_text(slices: &Slices, v: Vector3) -> Result<Nearest, Reason> {
+    let cell = cell_by_the_text(slices, v)?;
+    let unit = rust_of(v).normalize();
+    let count = slices.positions.len() / 3;
+    let [start, end] = part_by_the_text(&slices.cell_starts, cell)?;
+    refuse_where(end > slices.cell_ids.len(), 3)?;
     let ids = &slices.cell_ids[start..end];
     refuse_where(ids.is_empty(), 11)?;
     refuse_where(ids.iter().any(|&id| usize::from(id) >= count), 4)?;
@@ -251,11 +274,11 @@ fn nearest_by_the_text(slices: &Slices, v: Vector3) -> Result<Nearest, u32> {
     })
 }
 
-fn located_by_the_text(slices: &Slices, v: Vector3, nearest: usize) -> Result<Located, u32> {
+fn located_by_the_text(slices: &Slices, v: Vector3, nearest: usize) -> Result<Located, Reason> {
     let unit = rust_of(v).normalize();
     let count = slices.positions.len() / 3;
-    let [start, end] = [nearest, nearest + 1].map(|at| 3 * slices.triangle_starts[at] as usize);
-    refuse_where(start > end || end > slices.triples.len(), 3)?;
+    let [start, end] = part_by_the_text(&slices.triangle_starts, nearest)?.map(|at| 3 * at);
+    refuse_where(end > slices.triples.len(), 3)?;
     let ids = &slices.triples[start..end];
     refuse_where(ids.iter().any(|&id| usize::from(id) >= count), 4)?;
     let mut kept: Option<Located> = None;
@@ -267,7 +290,7 @@ fn located_by_the_text(slices: &Slices, v: Vector3, nearest: usize) -> Result<Lo
             kept = Some(next);
         }
     }
-    kept.ok_or(12)
+    kept.ok_or(Reason::row(12))
 }
 
 /// Up to three changes of a slice, the side or a position.
@@ -275,7 +298,7 @@ pub fn damage(random: &mut Random, slices: &mut Slices) {
     let count = slices.positions.len() / 3;
     let some = |random: &mut Random, length: usize| random.below(length as u64) as usize;
     for _ in 0..random.below(4) {
-        match random.below(14) {
+        match random.below(17) {
             0 => slices.side = random.below(6) as u32,
             1 => drop(slices.positions.pop()),
             2 => slices.positions.truncate(3 * (count - 1)),
@@ -328,6 +351,17 @@ pub fn damage(random: &mut Random, slices: &mut Slices) {
                 .iter_mut()
                 .for_each(|start| *start = 0),
             12 => slices.triangle_starts.fill(u32::MAX),
+            // Nearly every part falls.
+            13 => slices.cell_starts.reverse(),
+            14 => slices.triangle_starts.reverse(),
+            // Both lists behind an id and a triple that no part has: no query tests that.
+            15 => {
+                let later = |start: &mut u32| *start = start.saturating_add(1);
+                slices.cell_starts.iter_mut().for_each(later);
+                slices.cell_ids.insert(0, 0);
+                slices.triangle_starts.iter_mut().for_each(later);
+                slices.triples.splice(..0, [0; 3]);
+            }
             // Positions aren't tested again.
             _ => {
                 let values = [f64::NAN, f64::INFINITY, 0.0, 1e300, -1e-300];
@@ -342,10 +376,92 @@ pub fn damage(random: &mut Random, slices: &mut Slices) {
     }
 }
 
+/// Of the part at a place, by the starts and how many ids or triples there are: it falls; it is the
+/// first, or the last; its end is past them too; an earlier start falls too; it only ends past them.
+fn kinds_of_part(starts: &[u32], places: usize, at: usize) -> [bool; 6] {
+    let falls = |at: usize| starts[at + 1] < starts[at];
+    let past = starts[at + 1] as usize > places;
+    [
+        falls(at),
+        falls(at) && at == 0,
+        falls(at) && at + 2 == starts.len(),
+        falls(at) && past,
+        falls(at) && (0..at).any(falls),
+        !falls(at) && past,
+    ]
+}
+
+/// Whether starts fall somewhere, and whether row 17 of a mesh would refuse them.
+fn faults(starts: &[u32], places: usize) -> [bool; 2] {
+    let spans = starts.first() == Some(&0) && starts.last() == Some(&(places as u32));
+    [starts.windows(2).any(|pair| pair[1] < pair[0]), !spans]
+}
+
+/// The kinds of queries, each behind the row that is to refuse it, and whether one is of them. An
+/// accepted query has starts that it doesn't read, or that a mesh could not have.
+fn kinds_of_query(slices: &Slices, v: Vector3, answers: &Answers) -> [(&'static str, bool); 17] {
+    let triples = slices.triples.len() / 3;
+    let by = |number| matches!(answers.located, Err(reason) if reason.number == number);
+    let cell = cell_by_the_text(slices, v).ok();
+    let in_cell = cell.map_or([false; 6], |cell| {
+        kinds_of_part(&slices.cell_starts, slices.cell_ids.len(), cell)
+    });
+    let vertex = answers.nearest.as_ref().ok().map(|nearest| nearest.id);
+    let at_vertex = vertex.map_or([false; 6], |id| {
+        kinds_of_part(&slices.triangle_starts, triples, id as usize)
+    });
+    let accepted = answers.located.is_ok();
+    let cells = faults(&slices.cell_starts, slices.cell_ids.len()).map(|fault| accepted && fault);
+    let triangles = faults(&slices.triangle_starts, triples).map(|fault| accepted && fault);
+    [
+        ("3: a wrong length", by(3) && cell.is_none()),
+        ("18: the cell's part falls", by(18) && in_cell[0]),
+        (
+            "18: the part of cell 0 falls, index 1",
+            by(18) && in_cell[1],
+        ),
+        ("18: the last cell's part falls", by(18) && in_cell[2]),
+        (
+            "18: the cell's part falls, and ends past the ids",
+            by(18) && in_cell[3],
+        ),
+        (
+            "18: the cell's part falls, and an earlier start too",
+            by(18) && in_cell[4],
+        ),
+        ("3: the cell's part ends past the ids", by(3) && in_cell[5]),
+        ("18: the vertex's part falls", by(18) && at_vertex[0]),
+        (
+            "18: the part of vertex 0 falls, index 1",
+            by(18) && at_vertex[1],
+        ),
+        ("18: the last vertex's part falls", by(18) && at_vertex[2]),
+        (
+            "18: the vertex's part falls, and ends past the triples",
+            by(18) && at_vertex[3],
+        ),
+        (
+            "18: the vertex's part falls, and an earlier start too",
+            by(18) && at_vertex[4],
+        ),
+        (
+            "3: the vertex's part ends past the triples",
+            by(3) && at_vertex[5],
+        ),
+        ("accepted: cell starts fall elsewhere", cells[0]),
+        ("accepted: cell starts that 17 would refuse", cells[1]),
+        ("accepted: triangle starts fall elsewhere", triangles[0]),
+        (
+            "accepted: triangle starts that 17 would refuse",
+            triangles[1],
+        ),
+    ]
+}
+
 /// Each damaged grid is asked for a hundred directions.
 fn damaged(tally: &mut Tally) {
     let mut random = Random::new(73);
-    let mut rows = Rows::default();
+    let (mut rows, mut kinds) = (Rows::default(), Kinds::default());
     for frequency in 1..=3 {
         let lists = Lattice::new(frequency).lists;
         let grid = rust::FaceGrid::new(&lists.vertices, &lists.neighbors);
@@ -359,10 +475,12 @@ fn damaged(tally: &mut Tally) {
                 let v = inputs.direction();
                 let answers = answers_by_the_text(&slices, v);
                 rows.count(answers.located.as_ref().err().copied());
+                kinds.count(&kinds_of_query(&slices, v, &answers));
                 let ours = our_answers(&slices, v);
                 compare_with_text(tally, &ours, &answers, || format!("{name}, {v:?}"));
             }
         }
     }
-    rows.all_reached(tally, &[2, 3, 4, 9, 11, 12]);
+    rows.all_reached(tally, &[2, 3, 9, 18, 11, 4, 12]);
+    kinds.all_reached(tally);
 }

@@ -3,12 +3,13 @@
 
 use crate::analytic::{rust_answer, Answer, Classifier};
 use crate::directions::{row_9, rust_of, Directions};
-use crate::grids::{row_5, rust_grid};
+use crate::grids::{mesh_row, row_5, rust_grid};
 use crate::meshes::{permutation, Flat, Lattice, Lists, FREQUENCIES};
 use crate::operands::{Class, RADICANDS, TRIPLES};
 use crate::patterns::{Patterns, Random};
 use crate::queries::{self, Answers, Slices};
 use crate::renumber::{self, State};
+use crate::rows::{adjacency_row, by_hand, damage, Reason};
 use crate::walk;
 use icotable_oracle as rust;
 use koshirga::{Located, Nearest, Vector3};
@@ -51,30 +52,54 @@ const WRONG: [(&str, usize, usize); 14] = [
     ("lattices", 8, 19),
     // The hashes of positions and queue: f64 and u32.
     ("lattice_hashes", 2, 1),
-    ("lattice_hashes", 2, 8),
+    ("lattice_hashes", 2, 9),
     // The hash of the cell ids: u16.
-    ("grid_hashes", 2, 8),
+    ("grid_hashes", 2, 9),
     // A vertex of the order: whole list of u32.
-    ("meshes", 12, 5),
+    ("meshes", 70, 6),
     // An entry: whole list of u16.
-    ("renumberings", 0, 80),
+    ("renumberings", 0, 81),
     // The number of candidates of the fourth direction.
-    ("grid_queries", 8, 38),
+    ("grid_queries", 34, 44),
+];
+/// The same for the index of row 18: the file, and the call whose first index is changed.
+const WRONG_INDICES: [(&str, &str); 5] = [
+    ("meshes", WALK),
+    ("meshes", BUILDER),
+    ("renumberings", RENUMBERING),
+    ("grid_queries", NEAREST),
+    ("grid_queries", LOCATION),
 ];
 /// The same for the locators: the side of the first record, and a weight on the grid.
-const WRONG_LOCATORS: [(usize, usize); 2] = [(0, 2), (1, 18)];
+const WRONG_LOCATORS: [(usize, usize); 2] = [(0, 2), (1, 19)];
+
+/// The calls that read starts.
+const WALK: &str = "walk";
+const BUILDER: &str = "builder";
+const RENUMBERING: &str = "renumbering";
+const NEAREST: &str = "nearest";
+const LOCATION: &str = "location";
+/// The rows that have to refuse some call of a file.
+const REACHED: [(&str, &[u32]); 3] = [
+    ("meshes", &[2, 3, 17, 18, 4, 5, 8, 13]),
+    ("renumberings", &[2, 3, 17, 18, 4, 6, 7, 8]),
+    ("grid_queries", &[2, 3, 9, 18, 11, 4, 12]),
+];
 
 /// What stands in lent places before a call.
 const F64_BEFORE: f64 = 1.5;
 const U32_BEFORE: u32 = 0xdead_beef;
 const U16_BEFORE: u16 = 0xbeef;
 
-/// A record being written: its words, and the places of those that are answers.
+/// A record being written: its words and the places of those that are answers. Of calls that read
+/// starts, the rows that refuse them, and which of the answers is the index that row 18 carries.
 #[derive(Clone, Default)]
 struct Record {
     words: Vec<String>,
     answers: Vec<usize>,
     answering: bool,
+    rows: Vec<u32>,
+    indices: Vec<(&'static str, usize)>,
 }
 
 impl Record {
@@ -148,27 +173,51 @@ impl Record {
         }
     }
 
+    /// The number of a refusal, 0 where there is none.
+    fn refusal(mut self, row: Option<Reason>) -> Self {
+        self.rows.extend(row.map(|reason| reason.number));
+        self.number(row.map_or(0, |reason| reason.number))
+    }
+
+    /// The index of a refusal, 0 where it carries none.
+    fn index(mut self, call: &'static str, row: Option<Reason>) -> Self {
+        let index = row.and_then(|reason| reason.index);
+        self.indices
+            .extend(index.map(|_| (call, self.answers.len())));
+        self.length(index.unwrap_or(0))
+    }
+
+    /// The answer of a walk, with the entries read, or of the builder, with the side.
+    fn counted(self, call: &'static str, answer: Result<u32, Reason>) -> Self {
+        self.outcome()
+            .refusal(answer.err())
+            .number(answer.unwrap_or(0))
+            .index(call, answer.err())
+    }
+
     fn answers(self, answers: &Answers) -> Self {
-        let record = self.outcome();
+        let row = answers.nearest.as_ref().err().copied();
+        let record = self.outcome().refusal(row);
         let nearest = match &answers.nearest {
             Ok(Nearest {
                 id,
                 candidates,
                 distance,
-            }) => record.numbers(&[0, *id, *candidates]).double(*distance),
-            Err(number) => record.numbers(&[*number, 0, 0, 0]),
-        };
+            }) => record.numbers(&[*id, *candidates]).double(*distance),
+            Err(_) => record.numbers(&[0u32; 3]),
+        }
+        .index(NEAREST, row);
+        let row = answers.located.as_ref().err().copied();
+        let record = nearest.refusal(row);
         match &answers.located {
             Ok(Located {
                 triple,
                 weights: w,
                 least,
-            }) => nearest
-                .number(0u32)
-                .numbers(triple)
-                .doubles(&[w.u, w.v, w.w, *least]),
-            Err(number) => nearest.number(*number).numbers(&[0u32; 7]),
+            }) => record.numbers(triple).doubles(&[w.u, w.v, w.w, *least]),
+            Err(_) => record.numbers(&[0u32; 7]),
         }
+        .index(LOCATION, row)
     }
 
     /// The record with one word of its answers changed in its last bit.
@@ -229,6 +278,9 @@ pub fn write(folder: &Path) -> io::Result<()> {
     .map(|(name, records)| (name.to_string(), records()))
     .into();
     files.extend(LOCATORS.map(|frequency| (format!("locators_{frequency}"), locators(frequency))));
+    for (name, rows) in REACHED {
+        all_reached(name, right(&files, name).1, rows)?;
+    }
     let mut printed = String::new();
     fs::create_dir_all(folder.join("data"))?;
     for (name, records) in &files {
@@ -249,6 +301,22 @@ pub fn write(folder: &Path) -> io::Result<()> {
     fs::write(folder.join("stdout"), printed)
 }
 
+/// Prints how often each row refuses. Never is an error.
+fn all_reached(name: &str, records: &Records, rows: &[u32]) -> io::Result<()> {
+    let mut counts = Vec::new();
+    for row in rows {
+        let refusing = records.iter().flat_map(|record| &record.rows);
+        let count = refusing.filter(|&number| number == row).count();
+        if count == 0 {
+            let message = format!("no call of {name} is refused by row {row}");
+            return Err(io::Error::other(message));
+        }
+        counts.push(format!("{count} by row {row}"));
+    }
+    println!("{name}: calls refused: {}", counts.join(", "));
+    Ok(())
+}
+
 /// The number of a file in the program's order, and its records.
 fn right<'a>(files: &'a [(String, Records)], name: &str) -> (usize, &'a Records) {
     let at = files.iter().position(|(file, _)| file == name);
@@ -265,6 +333,16 @@ fn wrong_records(files: &[(String, Records)]) -> String {
             format!("{kind:x} {}", records[at].wrong(answer).line())
         })
         .collect();
+    lines.extend(WRONG_INDICES.map(|(name, call)| {
+        let (kind, records) = right(files, name);
+        let wrong = records.iter().find_map(|record| {
+            let mut indices = record.indices.iter();
+            let (_, answer) = indices.find(|(of, _)| *of == call)?;
+            Some(record.wrong(*answer))
+        });
+        let wrong = wrong.expect("a call that row 18 refuses");
+        format!("{kind:x} {}", wrong.line())
+    }));
     // A word too many; one too few, and as it was 0 no other rule sees that; an upper-case digit; no
     // line feed at the end.
     let (kind, roots) = right(files, "sqrt");
@@ -501,8 +579,7 @@ fn lattice_hashes() -> Records {
             let (walk, order, queue) = walk::rust_outcome(&lattice.lists.neighbors, count, count);
             lattice_hash(frequency, &lattice)
                 .lengths(&[count, count])
-                .outcome()
-                .numbers(&[walk.err().unwrap_or(0), walk.unwrap_or(0)])
+                .counted(WALK, walk)
                 .number(hash_u32s(&order))
                 .number(hash_u32s(&queue))
         })
@@ -525,8 +602,7 @@ fn grid_hashes() -> Records {
             let grid = rust_grid(&lattice.lists);
             lattice_hash(frequency, &lattice)
                 .lengths(&grid_lengths(&grid))
-                .outcome()
-                .numbers(&[0, grid.side])
+                .counted(BUILDER, Ok(grid.side))
                 .number(hash_u32s(&grid.cell_starts))
                 .number(hash_u16s(&grid.cell_ids))
                 .number(hash_u32s(&grid.triangle_starts))
@@ -564,7 +640,8 @@ fn lists_of(mesh: &Flat) -> Lists {
     }
 }
 
-/// Walk and grid of random meshes. Places are as many as are filled, or some more, or one less.
+/// Walk and grid of random meshes, and of the starts by hand. Places are as many as are filled, or some
+/// more, or one less.
 fn meshes() -> Records {
     let mut random = Random::new(103);
     let mut records = Records::new();
@@ -572,18 +649,23 @@ fn meshes() -> Records {
         let mut mesh = small(&mut random, 14, 90).flat();
         if at % 2 == 1 {
             for _ in 0..random.below(3) {
-                walk::damage(&mut random, &mut mesh);
+                damage(&mut random, &mut mesh);
             }
             if random.below(4) == 0 && !mesh.positions.is_empty() {
                 let at = random.below(mesh.positions.len() as u64) as usize;
                 mesh.positions[at] = [f64::NAN, f64::INFINITY, 1e7, -2e6][random.below(4) as usize];
             }
         }
-        let head = Record::default().lengths(&needed(&mesh, &[])[..3]);
-        let record = walk_words(&mut random, mesh_words(head, &mesh), &mesh);
-        records.push(grid_words(&mut random, record, &mesh));
+        records.push(mesh_record(&mut random, &mesh));
     }
+    records.extend(by_hand().map(|(mesh, _)| mesh_record(&mut random, &mesh)));
     records
+}
+
+fn mesh_record(random: &mut Random, mesh: &Flat) -> Record {
+    let head = Record::default().lengths(&needed(mesh, &[])[..3]);
+    let record = walk_words(random, mesh_words(head, mesh), mesh);
+    grid_words(random, record, mesh)
 }
 
 /// So many places, or up to two more, or one less.
@@ -595,35 +677,31 @@ fn about(random: &mut Random, places: usize) -> usize {
 fn walk_words(random: &mut Random, record: Record, mesh: &Flat) -> Record {
     let places = [0; 2].map(|_| about(random, mesh.count()));
     let short = places.iter().any(|&length| length < mesh.count());
-    let (answer, order, queue) = match walk::adjacency_row(mesh).or(short.then_some(8)) {
-        Some(row) => {
-            let [order, queue] = places.map(|length| vec![U32_BEFORE; length]);
-            (Err(row), order, queue)
-        }
+    let row = adjacency_row(mesh).or(short.then_some(Reason::row(8)));
+    let (answer, order, queue) = match row {
+        Some(reason) => walk::refused(reason, places[0], places[1]),
         None => walk::rust_outcome(&walk::lists_of(mesh), places[0], places[1]),
     };
     record
         .lengths(&places)
-        .outcome()
-        .numbers(&[answer.err().unwrap_or(0), answer.unwrap_or(0)])
+        .counted(WALK, answer)
         .numbers(&order)
         .numbers(&queue)
 }
 
 fn grid_words(random: &mut Random, record: Record, mesh: &Flat) -> Record {
-    let row = walk::adjacency_row(mesh).or_else(|| row_5(mesh).then_some(5));
+    let row = mesh_row(mesh);
     let grid = row.is_none().then(|| rust_grid(&lists_of(mesh)));
     let exact = grid.as_ref().map_or([20; 4], grid_lengths);
     let places = exact.map(|length| about(random, length));
     let short = (0..4).any(|i| places[i] < exact[i]);
-    let row = row.or(short.then_some(8));
+    let row = row.or(short.then_some(Reason::row(8)));
     let written = grid.filter(|_| row.is_none());
+    let side = written.as_ref().map_or(0, |grid| grid.side);
     let [a, b, c, d] = places;
     record
         .lengths(&places)
-        .outcome()
-        .number(row.unwrap_or(0))
-        .number(written.as_ref().map_or(0, |grid| grid.side))
+        .counted(BUILDER, row.map_or(Ok(side), Err))
         .numbers(&over(
             U32_BEFORE,
             a,
@@ -647,7 +725,7 @@ fn grid_words(random: &mut Random, record: Record, mesh: &Flat) -> Record {
 }
 
 /// Lattices by their walks and reversed, with one value a vertex and one a pair; random permutations
-/// of random meshes with data of any length; rows 2, 3, 4, 6, 7 and 8.
+/// of random meshes with data of any length; rows 2, 3, 17, 18, 4, 6, 7 and 8; the starts by hand.
 fn renumberings() -> Records {
     let mut records = Records::new();
     for (frequency, pairs) in [(1, false), (1, true), (2, false)] {
@@ -670,6 +748,14 @@ fn renumberings() -> Records {
     for at in 0..RENUMBERINGS {
         records.push(random_renumbering(&mut random, at % 2 == 1));
     }
+    records.extend(by_hand().map(|(mesh, _)| {
+        let ids: Vec<u32> = (0..mesh.count() as u32).collect();
+        let state = State {
+            values: numbered(ids.len()),
+            mesh,
+        };
+        renumbering(&state, &ids, 1, [state.longest(&ids); 5])
+    }));
     records
 }
 
@@ -690,7 +776,7 @@ fn random_renumbering(random: &mut Random, damaged: bool) -> Record {
         .collect();
     if damaged {
         match random.below(6) {
-            0 | 1 => walk::damage(random, &mut mesh),
+            0 | 1 => damage(random, &mut mesh),
             2 => drop(ids.pop()),
             3 => ids[0] = random.below(2 * count as u64) as u32,
             4 => each = random.below(2 + count as u64) as usize,
@@ -709,12 +795,7 @@ fn random_renumbering(random: &mut Random, damaged: bool) -> Record {
 }
 
 fn renumbering(state: &State, ids: &[u32], each: usize, places: [usize; 5]) -> Record {
-    let count = state.mesh.count();
-    let longest = state.longest(ids);
-    let row = walk::adjacency_row(&state.mesh)
-        .or((!renumber::is_permutation(count, ids)).then_some(6))
-        .or((each != 1 && each != count).then_some(7))
-        .or(places.iter().any(|&room| room < longest).then_some(8));
+    let row = renumber::renumbering_row(state, ids, each, places);
     let after = match row {
         Some(_) => state.clone(),
         None => {
@@ -731,7 +812,8 @@ fn renumbering(state: &State, ids: &[u32], each: usize, places: [usize; 5]) -> R
         .length(each)
         .lengths(&places)
         .outcome()
-        .number(row.unwrap_or(0));
+        .refusal(row)
+        .index(RENUMBERING, row);
     mesh_words(call, &after.mesh).doubles(&after.values)
 }
 
@@ -794,8 +876,7 @@ fn locators(frequency: usize) -> Records {
         .outcome()
         .number(0u32)
         .lengths(&grid_lengths(&slices))
-        .outcome()
-        .numbers(&[0, slices.side])];
+        .counted(BUILDER, Ok(slices.side))];
     let mut record = |v: Vector3| {
         let located = rust_answer(&oracle, &classifier, v);
         let nearest = match located {

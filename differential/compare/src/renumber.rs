@@ -1,11 +1,12 @@
 //! Renumbering beside the Rust's, and its refusals beside the rows' text.
 
-use crate::check::{Check, Judge, Rows, Tally};
+use crate::check::{Check, Judge, Kinds, Rows, Tally};
 use crate::meshes::{permutation, Flat, Lattice, Lists, FREQUENCIES};
 use crate::patterns::Random;
-use crate::walk::{adjacency_row, damage, lists_of};
+use crate::rows::{adjacency_row, by_hand, damage, kinds_of_starts, Reason};
+use crate::walk::lists_of;
 use icotable_oracle as rust;
-use koshirga::{MeshMut, Refusal, Scratch};
+use koshirga::{MeshMut, Scratch};
 
 /// Random meshes, and damaged calls.
 const MESHES: usize = 100_000;
@@ -17,6 +18,7 @@ pub fn checks() -> Vec<Check> {
         Check::new("80 lattices", lattices),
         Check::new("data of pairs", pairs),
         Check::new("random meshes", random_meshes),
+        Check::new("starts by hand", starts_by_hand),
         Check::new("refusals", refusals),
     ]
 }
@@ -81,7 +83,12 @@ impl Room {
     }
 }
 
-fn renumber(state: &mut State, permutation: &[u32], each: usize, room: &mut Room) -> Option<u32> {
+fn renumber(
+    state: &mut State,
+    permutation: &[u32],
+    each: usize,
+    room: &mut Room,
+) -> Option<Reason> {
     let mesh = MeshMut {
         positions: &mut state.mesh.positions,
         starts: &mut state.mesh.starts,
@@ -96,7 +103,7 @@ fn renumber(state: &mut State, permutation: &[u32], each: usize, room: &mut Room
     };
     koshirga::apply_vertex_permutation(mesh, &mut state.values, permutation, each, scratch)
         .err()
-        .map(Refusal::number)
+        .map(Reason::from)
 }
 
 pub fn rust_renumbered(state: &State, permutation: &[usize], each: usize) -> State {
@@ -229,16 +236,54 @@ fn random_meshes(tally: &mut Tally) {
     }
 }
 
-pub fn is_permutation(count: usize, permutation: &[u32]) -> bool {
+fn is_permutation(count: usize, permutation: &[u32]) -> bool {
     let mut sorted = permutation.to_vec();
     sorted.sort_unstable();
     sorted.iter().copied().eq(0..count as u32)
 }
 
-/// Rows 2, 3, 4, 6, 7 and 8 leave every slice as it was.
+/// Which row is to refuse a call.
+pub fn renumbering_row(
+    state: &State,
+    ids: &[u32],
+    each: usize,
+    places: [usize; 5],
+) -> Option<Reason> {
+    let count = state.mesh.count();
+    let longest = state.longest(ids);
+    adjacency_row(&state.mesh)
+        .or((!is_permutation(count, ids)).then_some(Reason::row(6)))
+        .or((each != 1 && each != count).then_some(Reason::row(7)))
+        .or(places
+            .iter()
+            .any(|&room| room < longest)
+            .then_some(Reason::row(8)))
+}
+
+/// The rows' reading and the engine, both held to what is known by hand.
+fn starts_by_hand(tally: &mut Tally) {
+    for (mesh, reason) in by_hand() {
+        let ids: Vec<u32> = (0..mesh.count() as u32).collect();
+        let start = State {
+            values: vec![2.5; mesh.count()],
+            mesh,
+        };
+        let places = [start.longest(&ids); 5];
+        let row = renumbering_row(&start, &ids, 1, places);
+        let (mut ours, mut room) = (start.clone(), Room::new(places));
+        let refusal = renumber(&mut ours, &ids, 1, &mut room);
+        let slices = ours.same(&start) && room.untouched();
+        let same = row == Some(reason) && refusal == Some(reason) && slices;
+        tally.compare(Judge::Rows, same, || {
+            format!("{start:?}: {refusal:?}, by hand {reason:?}, rows {row:?}, slices as they should be: {slices}")
+        });
+    }
+}
+
+/// Rows 2, 3, 17, 18, 4, 6, 7 and 8 leave every slice as it was.
 fn refusals(tally: &mut Tally) {
     let mut random = Random::new(64);
-    let mut rows = Rows::default();
+    let (mut rows, mut kinds) = (Rows::default(), Kinds::default());
     for at in 0..MESHES {
         let (mut start, _) = random_state(&mut random, one_or_count);
         let old_count = start.mesh.count();
@@ -264,11 +309,7 @@ fn refusals(tally: &mut Tally) {
             let short = &mut places[random.below(5) as usize];
             *short = short.saturating_sub(random.below(3) as usize);
         }
-        let count = start.mesh.count();
-        let row = adjacency_row(&start.mesh)
-            .or((!is_permutation(count, &ids)).then_some(6))
-            .or((each != 1 && each != count).then_some(7))
-            .or(places.iter().any(|&room| room < needed).then_some(8));
+        let row = renumbering_row(&start, &ids, each, places);
         let mut ours = start.clone();
         let mut room = Room::new(places);
         let refusal = renumber(&mut ours, &ids, each, &mut room);
@@ -280,9 +321,11 @@ fn refusals(tally: &mut Tally) {
             }
         };
         rows.count(row);
+        kinds.count(&kinds_of_starts(&start.mesh, row));
         tally.compare(judge, refusal == row && slices, || {
             format!("call {at}: {start:?}, {ids:?}, {each} each, places {places:?}: {refusal:?}, rows {row:?}, slices as they should be: {slices}")
         });
     }
-    rows.all_reached(tally, &[2, 3, 4, 6, 7, 8]);
+    rows.all_reached(tally, &[2, 3, 17, 18, 4, 6, 7, 8]);
+    kinds.all_reached(tally);
 }

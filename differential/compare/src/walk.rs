@@ -1,10 +1,10 @@
 //! The breadth-first order beside the Rust's, and its refusals beside the rows' text.
 
-use crate::check::{Check, Judge, Rows, Tally};
+use crate::check::{Check, Judge, Kinds, Rows, Tally};
 use crate::meshes::{Flat, Lattice, Lists, FREQUENCIES};
 use crate::patterns::Random;
+use crate::rows::{adjacency_row, by_hand, damage, kinds_of_starts, Reason};
 use icotable_oracle as rust;
-use koshirga::Refusal;
 
 /// Random meshes, and damaged ones.
 const MESHES: usize = 100_000;
@@ -15,17 +15,24 @@ pub fn checks() -> Vec<Check> {
     vec![
         Check::new("80 lattices", lattices),
         Check::new("random meshes", random_meshes),
+        Check::new("starts by hand", starts_by_hand),
         Check::new("refusals", refusals),
     ]
 }
 
 /// What a call leaves: its answer and both slices.
-pub type Outcome = (Result<u32, u32>, Vec<u32>, Vec<u32>);
+pub type Outcome = (Result<u32, Reason>, Vec<u32>, Vec<u32>);
 
 fn walked(mesh: &Flat, order_places: usize, queue_places: usize) -> Outcome {
     let (mut order, mut queue) = (vec![BEFORE; order_places], vec![BEFORE; queue_places]);
     let answer = koshirga::bfs_vertex_permutation(mesh.as_mesh(), &mut order, &mut queue);
-    (answer.map_err(Refusal::number), order, queue)
+    (answer.map_err(Reason::from), order, queue)
+}
+
+/// What a refusal leaves that comes before the walk.
+pub fn refused(reason: Reason, order_places: usize, queue_places: usize) -> Outcome {
+    let [order, queue] = [order_places, queue_places].map(|places| vec![BEFORE; places]);
+    (Err(reason), order, queue)
 }
 
 /// From the Rust's order: the queue holds the reached ids by their new ids; the entries read are
@@ -45,7 +52,8 @@ pub fn rust_outcome(neighbors: &[Vec<u16>], order_places: usize, queue_places: u
         }
     }
     let all = reached == neighbors.len();
-    (if all { Ok(read) } else { Err(13) }, order, queue)
+    let answer = if all { Ok(read) } else { Err(Reason::row(13)) };
+    (answer, order, queue)
 }
 
 fn compare(tally: &mut Tally, lists: &Lists, surplus: [usize; 2]) {
@@ -85,68 +93,23 @@ fn random_meshes(tally: &mut Tally) {
     }
 }
 
-/// Document 01, rows 2 to 4, read anew.
-pub fn adjacency_row(mesh: &Flat) -> Option<u32> {
-    let (positions, starts, entries) = (&mesh.positions, &mesh.starts, &mesh.entries);
-    let count = positions.len() / 3;
-    if positions.is_empty() || positions.len() % 3 != 0 || count > 65_536 {
-        return Some(2);
-    }
-    let ends_fit = starts.len() == count + 1
-        && starts.first() == Some(&0)
-        && starts.last() == Some(&(entries.len() as u32));
-    let lists_fit = || {
-        starts
-            .windows(2)
-            .all(|pair| pair[0] <= pair[1] && pair[1] - pair[0] <= 32)
-    };
-    if !ends_fit || !lists_fit() {
-        return Some(3);
-    }
-    let foreign = entries.iter().any(|&id| usize::from(id) >= count);
-    foreign.then_some(4)
-}
-
-/// One change that some row may refuse.
-pub fn damage(random: &mut Random, mesh: &mut Flat) {
-    let some = |random: &mut Random, length: usize| random.below(length as u64) as usize;
-    match random.below(12) {
-        0 => mesh.positions.clear(),
-        1 => drop(mesh.positions.pop()),
-        2 => mesh.positions.extend([1.0, 2.0, 3.0]),
-        3 => drop(mesh.starts.pop()),
-        4 => mesh.starts.push(mesh.entries.len() as u32),
-        5 => mesh.starts.iter_mut().take(1).for_each(|start| *start = 1),
-        6 | 7 if !mesh.starts.is_empty() => {
-            let at = some(random, mesh.starts.len());
-            mesh.starts[at] = random.below(1 + 2 * mesh.entries.len() as u64) as u32;
-        }
-        8 => mesh.entries.push(0),
-        9 if mesh
-            .starts
-            .get(1)
-            .is_some_and(|&end| end as usize <= mesh.entries.len()) =>
-        {
-            // A list of 32 or 33 in place of the first one.
-            let longer = 32 + random.below(2) as u32;
-            let old = mesh.starts[1] as usize;
-            mesh.entries.splice(..old, (0..longer).map(|_| 0));
-            for start in &mut mesh.starts[1..] {
-                *start = start.wrapping_add(longer).wrapping_sub(old as u32);
-            }
-        }
-        10 | 11 if !mesh.entries.is_empty() => {
-            let at = some(random, mesh.entries.len());
-            mesh.entries[at] = random.below(2 * mesh.count() as u64 + 1) as u16;
-        }
-        _ => drop(mesh.entries.pop()),
+/// The rows' reading and the engine, both held to what is known by hand.
+fn starts_by_hand(tally: &mut Tally) {
+    for (mesh, reason) in by_hand() {
+        let row = adjacency_row(&mesh);
+        let ours = walked(&mesh, mesh.count(), mesh.count());
+        let hand = refused(reason, mesh.count(), mesh.count());
+        tally.compare(Judge::Rows, row == Some(reason) && ours == hand, || {
+            format!("walk of {mesh:?}: {ours:?}, by hand {hand:?}, rows {row:?}")
+        });
     }
 }
 
-/// Rows 2, 3, 4 and 8 leave both slices as they were. Where no row holds the order is the Rust's.
+/// Rows 2, 3, 17, 18, 4 and 8 leave both slices as they were. Where no row holds the order is the
+/// Rust's.
 fn refusals(tally: &mut Tally) {
     let mut random = Random::new(52);
-    let mut rows = Rows::default();
+    let (mut rows, mut kinds) = (Rows::default(), Kinds::default());
     for _ in 0..MESHES {
         let mut flat = Lists::random(&mut random).flat();
         for _ in 0..random.below(3) {
@@ -156,29 +119,27 @@ fn refusals(tally: &mut Tally) {
         let mut places = || (count + 2).saturating_sub(random.below(4) as usize);
         let (order_places, queue_places) = (places(), places());
         let short = order_places < count || queue_places < count;
-        let row = adjacency_row(&flat).or(short.then_some(8));
+        let row = adjacency_row(&flat).or(short.then_some(Reason::row(8)));
         let ours = walked(&flat, order_places, queue_places);
         let name = || format!("{flat:?}, places {order_places}, {queue_places}");
-        let Some(number) = row else {
+        kinds.count(&kinds_of_starts(&flat, row));
+        let Some(reason) = row else {
             let rust = rust_outcome(&lists_of(&flat), order_places, queue_places);
             rows.count(rust.0.err());
             held_to_rust(tally, &ours, &rust, name);
             continue;
         };
         rows.count(row);
-        let text = (
-            Err(number),
-            vec![BEFORE; order_places],
-            vec![BEFORE; queue_places],
-        );
+        let text = refused(reason, order_places, queue_places);
         tally.compare(Judge::Rows, ours == text, || {
             format!("walk of {}: {ours:?}, rows {text:?}", name())
         });
     }
-    rows.all_reached(tally, &[2, 3, 4, 8, 13]);
+    rows.all_reached(tally, &[2, 3, 17, 18, 4, 8, 13]);
+    kinds.all_reached(tally);
 }
 
-/// The lists of a mesh that rows 3 and 4 let pass.
+/// The lists of a mesh that rows 2 to 4 let pass, 17 and 18 among them.
 pub fn lists_of(mesh: &Flat) -> Vec<Vec<u16>> {
     mesh.starts
         .windows(2)

@@ -10,7 +10,7 @@ use Rattle.grid_query.specs.declared.Located.the-variants.{Refused}
 use Rattle.grid_query.specs.Cell.{inTriples}
 use Rattle.grid_query.specs.Locate.{keptOf}
 use Rattle.grid_query.proofs.Triples.{kept-step, kept-end}
-use Rattle.grid_query.proofs.IdsBelow.{ids-below-at}
+use Rattle.mesh.proofs.IdsBelow.{ids-below-at}
 use Rattle.grid_query.proofs.kept_triangle.Statement.{statement}
 use Rattle.grid_query.proofs.kept_triangle.Tie as tie
 

@@ -1,21 +1,21 @@
--- `grid_query::locate_at` meets its contract: rows 3 and 4 at the vertex, then the triangle kept of its part of the triples. Assumes nothing.
+-- `grid_query::locate_at` meets its contract: rows 18, 3 and 4 at the vertex, then the triangle kept of its part of the triples. Assumes nothing.
 use borrow.Author.Needs.{needs}
 use Prim.Native.Nat.{ℕ, _+_, _-_, _*_, _^_, _≤_, _<_}
+use native.Mathlib.Numerals.{add-one}
 use native.Mathlib.Omega.{arith}
-use mathlib.Core.Path.{_≡_, sym, _∙_}
-use mathlib.Core.Bool.{Bool, true, false, _&&_}
+use mathlib.Core.Path.{_≡_, sym, ap, _∙_}
+use mathlib.Core.Bool.{Bool, true, false}
 use mathlib.Core.List.{List}
 use lib.ListN.{length, getD, take, drop}
 use lib.Dec.{leb}
-use borrow.Author.Tests.{leb-true, not-true, not-false}
-use Rattle.sequences.proofs.Range.{and-split}
+use borrow.Author.Tests.{lt-leb, le-leb}
 use Rattle.sequences.specs.Starts.{blockPart}
 use Rattle.mesh.specs.Mesh.{vertexCount}
+use Rattle.mesh.specs.Rows.{notFalling, idsBelow}
 use Rattle.grid.specs.Grid.{Grid}
-use Rattle.grid_query.specs.Cell.{lentGrid, idsBelow, triplesAt}
-use Rattle.grid_query.specs.Locate.{triplesFit, triangleRows, locatedAt}
-use Rattle.grid_query.proofs.IdsBelow.{entries-below-ids}
-use Rattle.grid_query.proofs.Parts.{triples-tested, triples-read}
+use Rattle.grid_query.specs.Cell.{lentGrid, triplesAt}
+use Rattle.grid_query.specs.Locate.{triplesWithin, triangleRows, locatedAt}
+use Rattle.grid_query.proofs.Parts.{falling-tested, triples-tested, triples-read}
 use Rattle.grid_query.proofs.locate_at.Statement.{statement}
 use Rattle.grid_query.proofs.locate_at.Tie as tie
 
@@ -38,23 +38,27 @@ lent c side cell-starts cell-ids = lentGrid side cell-starts cell-ids (start-of 
 small : (c : tie.After-shared-slice-known5) → (first-of c < 2 ^ 32) × (end-of c < 2 ^ 32)
 small c = (omega (arith, c .shared-slice-known5 .given (start-of c .args .vertex)), omega (arith, c .shared-slice-known5 .given (start-of c .args .vertex + 1)))
 
--- a part that row 3 lets pass
-inside : (c : tie.Else1) → (first-of (c .before) ≤ end-of (c .before)) × (end-of (c .before) * 3 ≤ length (start-of (c .before) .args .triples .now))
-inside c =
-    let both = and-split (leb (first-of (c .before)) (end-of (c .before))) (leb (end-of (c .before) * 3) (length (start-of (c .before) .args .triples .now))) (not-false _ (c .if1 .left)) in
-    (leb-true _ _ (both .0), leb-true _ _ (both .1))
+-- a part that rows 18 and 3 let pass
+inside : (c : tie.Else2) → let k = c .before .before in (first-of k ≤ end-of k) × (end-of k * 3 ≤ length (start-of k .args .triples .now))
+inside c = (c .before .if1 .left, c .if2 .left)
+
+ascends : (c : tie.Else1) → let a = start-of (c .before) .args in notFalling (a .triangle-starts .now) (a .vertex) ≡ true
+ascends c = let a = start-of (c .before) .args in sym (falling-tested (a .triangle-starts .now) (a .vertex)) ∙ le-leb _ _ (c .if1 .left)
 
 module _ (c : tie.After-shared-slice-known5) (side : ℕ) (cell-starts cell-ids : List ℕ) where
-  fits : (found : Bool) → (leb (first-of c) (end-of c) && leb (end-of c * 3) (length (start-of c .args .triples .now))) ≡ found → triplesFit (lent c side cell-starts cell-ids) (start-of c .args .vertex) ≡ found
-  fits found e = sym (triples-tested (lent c side cell-starts cell-ids) (start-of c .args .vertex)) ∙ e
+  within : (found : Bool) → leb (end-of c * 3) (length (start-of c .args .triples .now)) ≡ found → triplesWithin (lent c side cell-starts cell-ids) (start-of c .args .vertex) ≡ found
+  within found e = sym (triples-tested (lent c side cell-starts cell-ids) (start-of c .args .vertex)) ∙ e
 
   -- the part is that of the vertex
   are-triples : part-of c ≡ blockPart 3 (start-of c .args .triangle-starts .now) (start-of c .args .triples .now) (start-of c .args .vertex)
   are-triples = triples-read (lent c side cell-starts cell-ids) (start-of c .args .vertex)
 
-below : (c : tie.After-entries-below) (found : Bool) → c .entries-below .result ≡ found
-    → idsBelow (vertexCount (start-of (c .before .before .before) .args .positions .now)) (part-of (c .before .before .before)) ≡ found
-below c found e = sym (c .entries-below .ensures ∙ entries-below-ids _ _) ∙ e
+below : (c : tie.After-ids-below) (found : Bool) → c .ids-below .result ≡ found
+    → let k = c .before .before .before .before .before in idsBelow (vertexCount (start-of k .args .positions .now)) (part-of k) ≡ found
+below c found e = ap (λ (n : ℕ). idsBelow n (part-of (c .before .before .before .before .before))) (sym (c .before .vertex-count .ensures)) ∙ sym (c .ids-below .ensures) ∙ e
+
+add-next : tie.Need-add-next
+add-next c = search needs
 
 mul-start : tie.Need-mul-start
 mul-start c = search needs
@@ -65,9 +69,6 @@ shared-slice-read-start c = search needs
 cast-start : tie.Need-cast-start
 cast-start c = omega (arith, c .shared-slice-known4 .given (c .before .before .before .before .args .vertex))
 
-add-end : tie.Need-add-end
-add-end c = search needs
-
 mul-end : tie.Need-mul-end
 mul-end c = search needs
 
@@ -77,79 +78,98 @@ shared-slice-read-end c = search needs
 cast-end : tie.Need-cast-end
 cast-end c = omega (arith, small c)
 
-mul-if1 : tie.Need-mul-if1
-mul-if1 c = omega (arith, small c)
+at-requires : tie.Need-at-requires
+at-requires c κs = search needs
+
+returns : tie.Need-returns
+unfolding locatedAt triangleRows
+returns c = λ side cell-starts cell-ids.
+    let a = start-of (c .before .before) .args in
+    rw (c .at .ensures, sym (falling-tested (a .triangle-starts .now) (a .vertex)) ∙ lt-leb _ _ (c .before .if1 .taken), add-one (a .vertex))
+
+mul-if2 : tie.Need-mul-if2
+mul-if2 c = omega (arith, small (c .before))
 
 new-requires : tie.Need-new-requires
 new-requires c κs = search needs
 
-returns : tie.Need-returns
+returns-2 : tie.Need-returns-2
 unfolding locatedAt triangleRows
-returns c = λ side cell-starts cell-ids. rw (c .new .ensures, fits (c .before .before) side cell-starts cell-ids false (not-true _ (c .before .if1 .taken)))
+returns-2 c = λ side cell-starts cell-ids.
+    let e = c .before .before in
+    rw (c .new .ensures, ascends e, within (e .before) side cell-starts cell-ids false (lt-leb _ _ (c .before .if2 .taken)))
 
 mul-first : tie.Need-mul-first
-mul-first c = omega (arith, inside c, small (c .before))
+mul-first c = omega (arith, inside c, small (c .before .before))
 
 mul-last : tie.Need-mul-last
-mul-last c = omega (arith, inside c, small (c .before))
+mul-last c = omega (arith, inside c, small (c .before .before))
 
 mul-part : tie.Need-mul-part
-mul-part c = omega (arith, inside c, small (c .before))
+mul-part c = omega (arith, inside c, small (c .before .before))
 
 sub-part : tie.Need-sub-part
-sub-part c = omega (arith, inside c, small (c .before))
+sub-part c = omega (arith, inside c, small (c .before .before))
 
 part-part-start : tie.Need-part-part-start
-part-part-start c = omega (arith, inside c, small (c .before))
+part-part-start c = omega (arith, inside c, small (c .before .before))
 
 part-part-end : tie.Need-part-part-end
-part-part-end c = omega (arith, inside c, small (c .before))
+part-part-end c = omega (arith, inside c, small (c .before .before))
 
-entries-below-requires : tie.Need-entries-below-requires
-entries-below-requires c κs = search needs
+vertex-count-requires : tie.Need-vertex-count-requires
+vertex-count-requires c κs = search needs
+
+ids-below-requires : tie.Need-ids-below-requires
+ids-below-requires c κs = search needs
 
 kept-triangle-requires : tie.Need-kept-triangle-requires
-kept-triangle-requires c κs = below (c .before) true (c .if2 .taken)
+kept-triangle-requires c κs = below (c .before) true (c .if3 .taken)
 
 new-requires-2 : tie.Need-new-requires-2
 new-requires-2 c κs = search needs
 
-returns-2 : tie.Need-returns-2
-unfolding locatedAt triangleRows triplesAt
-returns-2 c = λ side cell-starts cell-ids.
-    let k = c .before .before in
-    let e = k .before .before in
-    rw (fits (e .before) side cell-starts cell-ids true (not-false _ (e .if1 .left)), ← (are-triples (e .before) side cell-starts cell-ids), below k true (c .before .if2 .taken)) (c .kept-triangle .ensures)
-
 returns-3 : tie.Need-returns-3
-unfolding locatedAt triangleRows
+unfolding locatedAt triangleRows triplesAt
 returns-3 c = λ side cell-starts cell-ids.
-    let k = c .before .before in
-    let e = k .before .before in
-    rw (c .new2 .ensures, fits (e .before) side cell-starts cell-ids true (not-false _ (e .if1 .left)), ← (are-triples (e .before) side cell-starts cell-ids), below k false (c .before .if2 .left))
+    let p = c .before .before in
+    let e = p .before .before .before in
+    let k = e .before .before in
+    rw (ascends (e .before), within k side cell-starts cell-ids true (le-leb _ _ (e .if2 .left)), ← (are-triples k side cell-starts cell-ids), below p true (c .before .if3 .taken)) (c .kept-triangle .ensures)
+
+returns-4 : tie.Need-returns-4
+unfolding locatedAt triangleRows
+returns-4 c = λ side cell-starts cell-ids.
+    let p = c .before .before in
+    let e = p .before .before .before in
+    let k = e .before .before in
+    rw (c .new2 .ensures, ascends (e .before), within k side cell-starts cell-ids true (le-leb _ _ (e .if2 .left)), ← (are-triples k side cell-starts cell-ids), below p false (c .before .if3 .left))
 
 pub locate-at-spec : {M : Type 1} → statement M
 locate-at-spec =
     tie.close
     (tie.spec
+    add-next
     mul-start
     shared-slice-read-start
     cast-start
-    add-end
     mul-end
     shared-slice-read-end
     cast-end
-    mul-if1
-    new-requires
+    at-requires
     returns
+    mul-if2
+    new-requires
+    returns-2
     mul-first
     mul-last
     mul-part
     sub-part
     part-part-start
     part-part-end
-    entries-below-requires
+    vertex-count-requires
+    ids-below-requires
     kept-triangle-requires
     new-requires-2
-    returns-2
-    returns-3)
+    returns-3
+    returns-4)

@@ -5,7 +5,7 @@ use native.Mathlib.Omega.{arith}
 use mathlib.Core.Path.{_≡_, refl}
 use mathlib.Core.Logic.{⊎-elim}
 use lib.ListN.{length}
-use Rattle.grid_query.proofs.IdsBelow.{ids-below-at}
+use Rattle.mesh.proofs.IdsBelow.{ids-below-at}
 use Rattle.grid_query.proofs.Scan.{Scanned, scan-first, scan-nearer, scan-farther, scan-end}
 use Rattle.grid_query.proofs.nearest_in_cell.Statement.{statement}
 use Rattle.grid_query.proofs.nearest_in_cell.Tie as tie

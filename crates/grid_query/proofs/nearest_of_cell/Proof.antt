@@ -1,20 +1,19 @@
--- `grid_query::nearest_of_cell` meets its contract: rows 3, 11 and 4 in the cell, then the nearest of its part of the ids. Assumes nothing.
+-- `grid_query::nearest_of_cell` meets its contract: rows 18, 3, 11 and 4 in the cell, then the nearest of its part of the ids. Assumes nothing.
 use borrow.Author.Needs.{needs}
 use Prim.Native.Nat.{ℕ, _+_, _-_, _≤_, _<_}
+use native.Mathlib.Numerals.{add-one}
 use native.Mathlib.Omega.{arith}
-use mathlib.Core.Path.{_≡_, sym, _∙_}
+use mathlib.Core.Path.{_≡_, sym, ap, _∙_}
 use mathlib.Core.Bool.{Bool, true, false}
 use mathlib.Core.List.{List}
 use lib.ListN.{length, getD, take, drop}
-use lib.Dec.{leb}
-use borrow.Author.Tests.{leb-true, not-true, not-false, lt-ltb, le-ltb}
-use Rattle.sequences.proofs.Range.{and-split}
+use borrow.Author.Tests.{lt-leb, le-leb, lt-ltb, le-ltb}
 use Rattle.mesh.specs.Mesh.{vertexCount}
+use Rattle.mesh.specs.Rows.{notFalling, idsBelow}
 use Rattle.grid.specs.Grid.{Grid}
-use Rattle.grid_query.specs.Cell.{lentGrid, partFits, idsBelow, candidates}
+use Rattle.grid_query.specs.Cell.{lentGrid, partWithin, candidates}
 use Rattle.grid_query.specs.Nearest.{nearestOfCell}
-use Rattle.grid_query.proofs.IdsBelow.{entries-below-ids}
-use Rattle.grid_query.proofs.Parts.{length-taken, part-tested, candidates-read}
+use Rattle.grid_query.proofs.Parts.{length-taken, falling-tested, part-tested, candidates-read}
 use Rattle.grid_query.proofs.nearest_of_cell.Statement.{statement}
 use Rattle.grid_query.proofs.nearest_of_cell.Tie as tie
 
@@ -33,21 +32,25 @@ part-of c = take (end-of c - first-of c) (drop (first-of c) (start-of c .args .c
 abbrev lent : tie.After-shared-slice-known5 → ℕ → List ℕ → List ℕ → Grid
 lent c side triangle-starts triples = lentGrid side (start-of c .args .cell-starts .now) (start-of c .args .cell-ids .now) triangle-starts triples
 
--- a part that row 3 lets pass
-inside : (c : tie.Else1) → (first-of (c .before) ≤ end-of (c .before)) × (end-of (c .before) ≤ length (start-of (c .before) .args .cell-ids .now))
-inside c =
-    let both = and-split (leb (first-of (c .before)) (end-of (c .before))) (leb (end-of (c .before)) (length (start-of (c .before) .args .cell-ids .now))) (not-false _ (c .if1 .left)) in
-    (leb-true _ _ (both .0), leb-true _ _ (both .1))
+-- a part that rows 18 and 3 let pass
+inside : (c : tie.Else2) → let k = c .before .before in (first-of k ≤ end-of k) × (end-of k ≤ length (start-of k .args .cell-ids .now))
+inside c = (c .before .if1 .left, c .if2 .left)
 
-fits : (c : tie.Else1) → let a = start-of (c .before) .args in partFits (a .cell-starts .now) (length (a .cell-ids .now)) (a .cell) ≡ true
-fits c = let a = start-of (c .before) .args in sym (part-tested (a .cell-starts .now) (length (a .cell-ids .now)) (a .cell)) ∙ not-false _ (c .if1 .left)
+ascends : (c : tie.Else1) → let a = start-of (c .before) .args in notFalling (a .cell-starts .now) (a .cell) ≡ true
+ascends c = let a = start-of (c .before) .args in sym (falling-tested (a .cell-starts .now) (a .cell)) ∙ le-leb _ _ (c .if1 .left)
 
-part-length : (c : tie.Else1) → length (part-of (c .before)) ≡ end-of (c .before) - first-of (c .before)
-part-length c = length-taken (first-of (c .before)) (end-of (c .before)) (start-of (c .before) .args .cell-ids .now) (inside c .1)
+within : (c : tie.Else2) → let a = start-of (c .before .before) .args in partWithin (a .cell-starts .now) (length (a .cell-ids .now)) (a .cell) ≡ true
+within c = let a = start-of (c .before .before) .args in sym (part-tested (a .cell-starts .now) (a .cell) (length (a .cell-ids .now))) ∙ le-leb _ _ (c .if2 .left)
+
+part-length : (c : tie.Else2) → let k = c .before .before in length (part-of k) ≡ end-of k - first-of k
+part-length c = let k = c .before .before in length-taken (first-of k) (end-of k) (start-of k .args .cell-ids .now) (inside c .1)
 
 -- the part is the cell's candidates
 are-candidates : (c : tie.After-shared-slice-known5) (side : ℕ) (triangle-starts triples : List ℕ) → part-of c ≡ candidates (lent c side triangle-starts triples) (start-of c .args .cell)
 are-candidates c side triangle-starts triples = candidates-read (lent c side triangle-starts triples) (start-of c .args .cell)
+
+add-next : tie.Need-add-next
+add-next c = search needs
 
 mul-start : tie.Need-mul-start
 mul-start c = search needs
@@ -58,9 +61,6 @@ shared-slice-read-start c = search needs
 cast-start : tie.Need-cast-start
 cast-start c = omega (arith, c .shared-slice-known4 .given (c .before .before .before .before .args .cell))
 
-add-end : tie.Need-add-end
-add-end c = search needs
-
 mul-end : tie.Need-mul-end
 mul-end c = search needs
 
@@ -70,30 +70,38 @@ shared-slice-read-end c = search needs
 cast-end : tie.Need-cast-end
 cast-end c = omega (arith, c .shared-slice-known5 .given (start-of c .args .cell + 1))
 
-new-requires : tie.Need-new-requires
-new-requires c κs = search needs
+at-requires : tie.Need-at-requires
+at-requires c κs = search needs
 
 returns : tie.Need-returns
 unfolding nearestOfCell
 returns c = λ side triangle-starts triples.
     let a = start-of (c .before .before) .args in
-    rw (c .new .ensures, sym (part-tested (a .cell-starts .now) (length (a .cell-ids .now)) (a .cell)) ∙ not-true _ (c .before .if1 .taken))
+    rw (c .at .ensures, sym (falling-tested (a .cell-starts .now) (a .cell)) ∙ lt-leb _ _ (c .before .if1 .taken), add-one (a .cell))
 
-new-requires-2 : tie.Need-new-requires-2
-new-requires-2 c κs = search needs
+new-requires : tie.Need-new-requires
+new-requires c κs = search needs
 
 returns-2 : tie.Need-returns-2
 unfolding nearestOfCell
 returns-2 c = λ side triangle-starts triples.
     let e = c .before .before in
-    let none : length (part-of (e .before)) ≤ 0 = (let same = c .before .if2 .taken in omega (arith, part-length e)) in
-    rw (c .new2 .ensures, fits e, ← (are-candidates (e .before) side triangle-starts triples), le-ltb 0 (length (part-of (e .before))) none)
+    let a = start-of (e .before) .args in
+    rw (c .new .ensures, ascends e, sym (part-tested (a .cell-starts .now) (a .cell) (length (a .cell-ids .now))) ∙ lt-leb _ _ (c .before .if2 .taken))
+
+new-requires-2 : tie.Need-new-requires-2
+new-requires-2 c κs = search needs
+
+returns-3 : tie.Need-returns-3
+unfolding nearestOfCell
+returns-3 c = λ side triangle-starts triples.
+    let e = c .before .before in
+    let k = e .before .before in
+    let none : length (part-of k) ≤ 0 = (let same = c .before .if3 .taken in omega (arith, part-length e)) in
+    rw (c .new2 .ensures, ascends (e .before), within e, ← (are-candidates k side triangle-starts triples), le-ltb 0 (length (part-of k)) none)
 
 mul-part : tie.Need-mul-part
 mul-part c = omega (arith, inside (c .before))
-
-sub-part : tie.Need-sub-part
-sub-part c = omega (arith, inside (c .before))
 
 part-part-start : tie.Need-part-part-start
 part-part-start c = omega (arith, inside (c .before))
@@ -101,65 +109,73 @@ part-part-start c = omega (arith, inside (c .before))
 part-part-end : tie.Need-part-part-end
 part-part-end c = omega (arith, inside (c .before))
 
-entries-below-requires : tie.Need-entries-below-requires
-entries-below-requires c κs = search needs
+vertex-count-requires : tie.Need-vertex-count-requires
+vertex-count-requires c κs = search needs
+
+ids-below-requires : tie.Need-ids-below-requires
+ids-below-requires c κs = search needs
 
 -- what is tested of the part where it is not empty
-some : (c : tie.After-part) → 0 < length (part-of (c .before .before .before))
+some : (c : tie.After-part) → 0 < length (part-of (c .before .before .before .before))
 some c =
     let e = c .before .before in
     let inside-part = inside e in
     let so-long = part-length e in
-    omega (arith, c .before .if2 .left)
+    omega (arith, c .before .if3 .left)
 
-below : (c : tie.After-entries-below) (found : Bool) → c .entries-below .result ≡ found
-    → idsBelow (vertexCount (start-of (c .before .before .before .before) .args .positions .now)) (part-of (c .before .before .before .before)) ≡ found
-below c found e = sym (c .entries-below .ensures ∙ entries-below-ids _ _) ∙ e
+below : (c : tie.After-ids-below) (found : Bool) → c .ids-below .result ≡ found
+    → let k = c .before .before .before .before .before .before in idsBelow (vertexCount (start-of k .args .positions .now)) (part-of k) ≡ found
+below c found e = ap (λ (n : ℕ). idsBelow n (part-of (c .before .before .before .before .before .before))) (sym (c .before .vertex-count .ensures)) ∙ sym (c .ids-below .ensures) ∙ e
 
 nearest-in-cell-requires : tie.Need-nearest-in-cell-requires
 nearest-in-cell-requires c κs =
-    let p = c .before .before in
+    let p = c .before .before .before in
     let e = p .before .before in
-    (some p, (omega (arith, part-length e, e .before .shared-slice-known5 .given (start-of (e .before) .args .cell + 1)), below (c .before) true (c .if3 .taken)))
+    let k = e .before .before in
+    (some p, (omega (arith, part-length e, k .shared-slice-known5 .given (start-of k .args .cell + 1)), below (c .before) true (c .if4 .taken)))
 
 new-requires-3 : tie.Need-new-requires-3
 new-requires-3 c κs = search needs
 
-returns-3 : tie.Need-returns-3
-unfolding nearestOfCell
-returns-3 c = λ side triangle-starts triples.
-    let p = c .before .before .before in
-    let e = p .before .before in
-    rw (← (are-candidates (e .before) side triangle-starts triples), fits e, lt-ltb 0 (length (part-of (e .before))) (some p), below (c .before .before) true (c .before .if3 .taken)) (c .nearest-in-cell .ensures)
-
 returns-4 : tie.Need-returns-4
 unfolding nearestOfCell
 returns-4 c = λ side triangle-starts triples.
-    let p = c .before .before .before in
+    let p = c .before .before .before .before in
     let e = p .before .before in
-    rw (c .new3 .ensures, ← (are-candidates (e .before) side triangle-starts triples), fits e, lt-ltb 0 (length (part-of (e .before))) (some p), below (c .before .before) false (c .before .if3 .left))
+    let k = e .before .before in
+    rw (← (are-candidates k side triangle-starts triples), ascends (e .before), within e, lt-ltb 0 (length (part-of k)) (some p), below (c .before .before) true (c .before .if4 .taken)) (c .nearest-in-cell .ensures)
+
+returns-5 : tie.Need-returns-5
+unfolding nearestOfCell
+returns-5 c = λ side triangle-starts triples.
+    let p = c .before .before .before .before in
+    let e = p .before .before in
+    let k = e .before .before in
+    rw (c .new3 .ensures, ← (are-candidates k side triangle-starts triples), ascends (e .before), within e, lt-ltb 0 (length (part-of k)) (some p), below (c .before .before) false (c .before .if4 .left))
 
 pub nearest-of-cell-spec : {M : Type 1} → statement M
 nearest-of-cell-spec =
     tie.close
     (tie.spec
+    add-next
     mul-start
     shared-slice-read-start
     cast-start
-    add-end
     mul-end
     shared-slice-read-end
     cast-end
-    new-requires
+    at-requires
     returns
-    new-requires-2
+    new-requires
     returns-2
+    new-requires-2
+    returns-3
     mul-part
-    sub-part
     part-part-start
     part-part-end
-    entries-below-requires
+    vertex-count-requires
+    ids-below-requires
     nearest-in-cell-requires
     new-requires-3
-    returns-3
-    returns-4)
+    returns-4
+    returns-5)

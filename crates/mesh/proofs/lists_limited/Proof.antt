@@ -1,13 +1,13 @@
 -- `mesh::lists_limited` meets its contract: no list before the vertex is too long. Assumes nothing.
 use borrow.Author.Needs.{needs}
-use Prim.Native.Nat.{ℕ, suc, _+_, _-_, _≤_, _<_, _/_}
+use Prim.Native.Nat.{ℕ, suc, _+_, _-_, _≤_, _<_}
 use native.Mathlib.Omega.{arith}
 use native.Mathlib.Numerals.{add-one}
 use mathlib.Core.Path.{_≡_, refl, sym, ap, _∙_}
 use mathlib.Core.Bool.{Bool, true}
 use mathlib.Core.List.{List}
 use lib.Dec.{leb}
-use lib.ListN.{length, getD}
+use lib.ListN.{getD}
 use borrow.Author.Tests.{le-leb, lt-leb, leb-true}
 use Rattle.sequences.specs.Range.{allBelow}
 use Rattle.sequences.proofs.Range.{all-below-at, all-below-suc, all-below-fails}
@@ -19,13 +19,13 @@ abbrev limited : List ℕ → ℕ → Bool
 limited starts v = leb (getD starts (suc v) 0 - getD starts v 0) longestList
 
 abbrev Inv-loop : tie.InvT-loop
-Inv-loop positions starts count vertex₀ vertex = (vertex ≤ count) × (allBelow (limited starts) vertex ≡ true)
+Inv-loop count starts vertex₀ vertex = (vertex ≤ count) × (allBelow (limited starts) vertex ≡ true)
 
 abbrev μ-loop : tie.MeasureT-loop
-μ-loop positions starts count vertex₀ vertex = count - vertex
+μ-loop count starts vertex₀ vertex = count - vertex
 
 -- the test before this one: the subtraction is defined
-ascend : (c : tie.Start Inv-loop μ-loop) (v : ℕ) → v < length (c .args .positions .now) / 3 → getD (c .args .starts .now) v 0 ≤ getD (c .args .starts .now) (v + 1) 0
+ascend : (c : tie.Start Inv-loop μ-loop) (v : ℕ) → v < c .args .count → getD (c .args .starts .now) v 0 ≤ getD (c .args .starts .now) (v + 1) 0
 unfolding startsAscend
 ascend c v lt = rw add-one (leb-true _ _ (all-below-at (λ v. leb (getD (c .args .starts .now) v 0) (getD (c .args .starts .now) (suc v) 0)) _ v (c .pre .1) lt))
 
@@ -56,7 +56,7 @@ unfolding listsLimited
 returns c =
     let l = c .before .before .before .before in
     let starts = l .before .args .starts .now in
-    sym (all-below-fails (limited starts) (length (l .before .args .positions .now) / 3) (l .loop .vertex) (omega arith) (lt-leb _ _ (rw add-one at (c .if1 .taken))))
+    sym (all-below-fails (limited starts) (l .before .args .count) (l .loop .vertex) (omega arith) (lt-leb _ _ (rw add-one at (c .if1 .taken))))
 
 add-vertex : tie.Need-add-vertex Inv-loop μ-loop
 add-vertex c = search needs
@@ -73,7 +73,7 @@ returns-2 : tie.Need-returns-2 Inv-loop μ-loop
 unfolding listsLimited
 returns-2 c =
     let l = c .before in
-    let all : length (l .before .args .positions .now) / 3 ≡ l .loop .vertex = omega arith in
+    let all : l .before .args .count ≡ l .loop .vertex = omega arith in
     sym (ap (allBelow (limited (l .before .args .starts .now))) all ∙ l .loop .inv .1)
 
 pub lists-limited-spec : {M : Type 1} → statement M

@@ -1,9 +1,7 @@
 -- `mesh::starts_span` meets its contract. Assumes nothing.
 use borrow.Author.Needs.{needs}
-use Prim.Native.Nat.{_/_}
 use native.Mathlib.Omega.{arith}
 use mathlib.Core.Path.{refl}
-use lib.ListN.{length}
 use Rattle.mesh.specs.Rows.{startsSpan}
 use Rattle.mesh.proofs.starts_span.Statement.{statement}
 use Rattle.mesh.proofs.starts_span.Tie as tie
@@ -18,7 +16,7 @@ shared-slice-read-result-2 : tie.Need-shared-slice-read-result-2
 shared-slice-read-result-2 c = search needs
 
 cast-result : tie.Need-cast-result
-cast-result c = omega (arith, c .shared-slice-known2 .given (length (c .before .before .args .positions .now) / 3))
+cast-result c = omega (arith, c .shared-slice-known2 .given (c .before .before .args .count))
 
 returns : tie.Need-returns
 unfolding startsSpan

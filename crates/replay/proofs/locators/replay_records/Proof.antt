@@ -11,11 +11,8 @@ Inv-loop text frequency ids positions cell-starts cell-ids triangle-starts tripl
 abbrev μ-loop : tie.MeasureT-loop
 μ-loop text frequency ids positions cell-starts cell-ids triangle-starts triples side end₀ tally₀ end tally = length text - end
 
-expect-u32-requires : tie.Need-expect-u32-requires Inv-loop μ-loop
-expect-u32-requires c κs = search needs
-
-expect-u32-requires-2 : tie.Need-expect-u32-requires-2 Inv-loop μ-loop
-expect-u32-requires-2 c κs = search needs
+expect-built-requires : tie.Need-expect-built-requires Inv-loop μ-loop
+expect-built-requires c κs = search needs
 
 line-end-requires : tie.Need-line-end-requires Inv-loop μ-loop
 line-end-requires c κs = search needs
@@ -59,8 +56,7 @@ replay-records-spec =
     (tie.spec
     Inv-loop
     μ-loop
-    expect-u32-requires
-    expect-u32-requires-2
+    expect-built-requires
     line-end-requires
     none-requires
     counted-requires

@@ -1,6 +1,6 @@
--- `mesh::entries_below` meets its contract: the entries passed are ids. Assumes nothing.
+-- `mesh::ids_below` meets its contract: the ids passed are below the count. Assumes nothing.
 use borrow.Author.Needs.{needs}
-use Prim.Native.Nat.{ℕ, _-_, _≤_, _/_}
+use Prim.Native.Nat.{ℕ, _-_, _≤_}
 use native.Mathlib.Omega.{arith}
 use mathlib.Core.Path.{_≡_, refl, sym, ap, _∙_}
 use mathlib.Core.Bool.{Bool, true}
@@ -10,18 +10,18 @@ use lib.ListN.{length, getD}
 use borrow.Author.Tests.{lt-ltb, le-ltb}
 use Rattle.sequences.specs.Range.{allBelow}
 use Rattle.sequences.proofs.Range.{all-below-suc, all-below-fails}
-use Rattle.mesh.specs.Rows.{entriesBelow}
-use Rattle.mesh.proofs.entries_below.Statement.{statement}
-use Rattle.mesh.proofs.entries_below.Tie as tie
+use Rattle.mesh.specs.Rows.{idsBelow}
+use Rattle.mesh.proofs.ids_below.Statement.{statement}
+use Rattle.mesh.proofs.ids_below.Tie as tie
 
 abbrev below : List ℕ → ℕ → ℕ → Bool
-below entries count i = ltb (getD entries i 0) count
+below ids count i = ltb (getD ids i 0) count
 
 abbrev Inv-loop : tie.InvT-loop
-Inv-loop positions entries count i₀ i = (i ≤ length entries) × (allBelow (below entries count) i ≡ true)
+Inv-loop count ids i₀ i = (i ≤ length ids) × (allBelow (below ids count) i ≡ true)
 
 abbrev μ-loop : tie.MeasureT-loop
-μ-loop positions entries count i₀ i = length entries - i
+μ-loop count ids i₀ i = length ids - i
 
 loop-holds : tie.Need-loop-holds Inv-loop μ-loop
 unfolding allBelow
@@ -37,11 +37,11 @@ cast-if1 : tie.Need-cast-if1 Inv-loop μ-loop
 cast-if1 c = omega (arith, c .shared-slice-known .given (c .before .before .loop .i))
 
 returns : tie.Need-returns Inv-loop μ-loop
-unfolding entriesBelow
+unfolding idsBelow
 returns c =
     let l = c .before .before .before in
     let a = l .before .args in
-    sym (all-below-fails (below (a .entries .now) (length (a .positions .now) / 3)) (length (a .entries .now)) (l .loop .i) (omega arith) (le-ltb _ _ (c .if1 .taken)))
+    sym (all-below-fails (below (a .ids .now) (a .count)) (length (a .ids .now)) (l .loop .i) (omega arith) (le-ltb _ _ (c .if1 .taken)))
 
 add-i : tie.Need-add-i Inv-loop μ-loop
 add-i c = search needs
@@ -53,18 +53,18 @@ loop-again : tie.Need-loop-again Inv-loop μ-loop
 loop-again c =
     let l = c .before .before .before in
     let a = l .before .args in
-    (omega arith, all-below-suc (below (a .entries .now) (length (a .positions .now) / 3)) (l .loop .i) (l .loop .inv .1) (lt-ltb _ _ (c .if1 .left)))
+    (omega arith, all-below-suc (below (a .ids .now) (a .count)) (l .loop .i) (l .loop .inv .1) (lt-ltb _ _ (c .if1 .left)))
 
 returns-2 : tie.Need-returns-2 Inv-loop μ-loop
-unfolding entriesBelow
+unfolding idsBelow
 returns-2 c =
     let l = c .before in
     let a = l .before .args in
-    let all : length (a .entries .now) ≡ l .loop .i = omega arith in
-    sym (ap (allBelow (below (a .entries .now) (length (a .positions .now) / 3))) all ∙ l .loop .inv .1)
+    let all : length (a .ids .now) ≡ l .loop .i = omega arith in
+    sym (ap (allBelow (below (a .ids .now) (a .count))) all ∙ l .loop .inv .1)
 
-pub entries-below-spec : {M : Type 1} → statement M
-entries-below-spec =
+pub ids-below-spec : {M : Type 1} → statement M
+ids-below-spec =
     tie.close
     (tie.spec
     Inv-loop

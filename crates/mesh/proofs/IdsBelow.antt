@@ -1,16 +1,13 @@
--- What row 4 tells of a part of a grid's ids. Assumes nothing.
+-- What row 4 tells of ids that it lets pass. Assumes nothing.
 use Prim.Native.Nat.{ℕ, _<_}
-use mathlib.Core.Path.{_≡_, refl, subst}
+use mathlib.Core.Path.{_≡_, subst}
 use mathlib.Core.Bool.{true}
-use mathlib.Core.List.{List, [], List·Memᴰ}
+use mathlib.Core.List.{List, List·Memᴰ}
 use lib.ListN.{length, getD}
-use lib.Ieee.{Float}
 use borrow.Author.Tests.{ltb-true}
 use Rattle.sequences.proofs.Range.{all-below-at}
 use Rattle.sequences.proofs.Tabulate.{member-getD}
-use Rattle.mesh.specs.Mesh.{vertexCount, meshOf}
-use Rattle.mesh.specs.Rows.{entriesBelow}
-use Rattle.grid_query.specs.Cell.{idsBelow}
+use Rattle.mesh.specs.Rows.{idsBelow}
 
 pub ids-below-at : (n : ℕ) (ids : List ℕ) (i : ℕ) → idsBelow n ids ≡ true → i < length ids → getD ids i 0 < n
 unfolding idsBelow
@@ -18,8 +15,3 @@ ids-below-at n ids i h l = ltb-true (getD ids i 0) n (all-below-at _ (length ids
 
 pub ids-below-member : (n : ℕ) (ids : List ℕ) (v : ℕ) → idsBelow n ids ≡ true → List·Memᴰ v ids → v < n
 ids-below-member n ids v h m = let k = member-getD v ids 0 m in subst (λ (x : ℕ). x < n) (k .2) (ids-below-at n ids (k .0) h (k .1))
-
--- a mesh asks the same of its entries
-pub entries-below-ids : (positions : List Float) (ids : List ℕ) → entriesBelow (meshOf positions [] ids) ≡ idsBelow (vertexCount positions) ids
-unfolding idsBelow entriesBelow
-entries-below-ids positions ids = refl

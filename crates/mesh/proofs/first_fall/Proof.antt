@@ -1,0 +1,92 @@
+-- `mesh::first_fall` meets its contract: no start up to i falls. Assumes nothing.
+use borrow.Author.Needs.{needs}
+use Prim.Native.Nat.{ℕ, suc, _+_, _-_, _≤_}
+use native.Mathlib.Omega.{arith}
+use mathlib.Core.Path.{_≡_, refl, sym, ap, _∙_}
+use mathlib.Core.Bool.{true}
+use mathlib.Core.List.{List}
+use lib.ListN.{length, getD}
+use borrow.Author.Tests.{le-leb, lt-leb}
+use Rattle.sequences.specs.Range.{allBelow}
+use Rattle.sequences.proofs.Range.{all-below-at, all-below-intro, all-below-suc}
+use Rattle.mesh.specs.Rows.{notFalling}
+use Rattle.mesh.proofs.Falls.{nowhere-falls, falls-behind}
+use Rattle.mesh.proofs.first_fall.Statement.{statement}
+use Rattle.mesh.proofs.first_fall.Tie as tie
+
+abbrev Inv-loop : tie.InvT-loop
+Inv-loop starts i₀ i = (1 ≤ i) × (allBelow (notFalling starts) (i - 1) ≡ true)
+
+abbrev μ-loop : tie.MeasureT-loop
+μ-loop starts i₀ i = length starts - i
+
+loop-holds : tie.Need-loop-holds Inv-loop μ-loop
+unfolding allBelow
+loop-holds c = (omega arith, refl)
+
+mul-if1 : tie.Need-mul-if1 Inv-loop μ-loop
+mul-if1 c = search needs
+
+shared-slice-read-if1 : tie.Need-shared-slice-read-if1 Inv-loop μ-loop
+shared-slice-read-if1 c = search needs
+
+sub-if1 : tie.Need-sub-if1 Inv-loop μ-loop
+sub-if1 c = search needs
+
+mul-if1-2 : tie.Need-mul-if1-2 Inv-loop μ-loop
+mul-if1-2 c = search needs
+
+shared-slice-read-if1-2 : tie.Need-shared-slice-read-if1-2 Inv-loop μ-loop
+shared-slice-read-if1-2 c = search needs
+
+-- the start behind the one before i is start i
+at-behind : (starts : List ℕ) (i : ℕ) → 1 ≤ i → getD starts (suc (i - 1)) 0 ≡ getD starts i 0
+at-behind starts i h = ap (λ (k : ℕ). getD starts k 0) (let e : suc (i - 1) ≡ i = omega arith in e)
+
+returns : tie.Need-returns Inv-loop μ-loop
+returns c =
+    let l = c .before .before .before .before in
+    let starts = l .before .args .starts .now in
+    let i = l .loop .i in
+    let e = at-behind starts i (l .loop .inv .0) in
+    let t = c .if1 .taken in
+    (let k : i ≡ suc (i - 1) = omega (arith, l .loop .inv .0) in k) ∙ sym (falls-behind starts (i - 1) (omega (arith, l .loop .inv .0)) (l .loop .inv .1) (lt-leb (getD starts (i - 1) 0) (getD starts (suc (i - 1)) 0) (omega arith)))
+
+add-i : tie.Need-add-i Inv-loop μ-loop
+add-i c = search needs
+
+loop-less : tie.Need-loop-less Inv-loop μ-loop
+loop-less c = omega arith
+
+loop-again : tie.Need-loop-again Inv-loop μ-loop
+loop-again c =
+    let l = c .before .before .before .before in
+    let starts = l .before .args .starts .now in
+    let i = l .loop .i in
+    let e = at-behind starts i (l .loop .inv .0) in
+    let t = c .if1 .left in
+    (omega arith, ap (allBelow (notFalling starts)) (let k : i + 1 - 1 ≡ i - 1 + 1 = omega (arith, l .loop .inv .0) in k) ∙ all-below-suc (notFalling starts) (i - 1) (l .loop .inv .1) (le-leb (getD starts (i - 1) 0) (getD starts (suc (i - 1)) 0) (omega arith)))
+
+returns-2 : tie.Need-returns-2 Inv-loop μ-loop
+returns-2 c =
+    let l = c .before in
+    let starts = l .before .args .starts .now in
+    sym (nowhere-falls starts (all-below-intro (notFalling starts) (length starts - 1) (λ v lt. all-below-at (notFalling starts) (l .loop .i - 1) v (l .loop .inv .1) (omega (arith, c .loop-test .left)))))
+
+pub first-fall-spec : {M : Type 1} → statement M
+first-fall-spec =
+    tie.close
+    (tie.spec
+    Inv-loop
+    μ-loop
+    loop-holds
+    mul-if1
+    shared-slice-read-if1
+    sub-if1
+    mul-if1-2
+    shared-slice-read-if1-2
+    returns
+    add-i
+    loop-less
+    loop-again
+    returns-2)
