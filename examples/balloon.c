@@ -17,13 +17,18 @@
 
 enum { FREQUENCY = 20 };
 
+/* The grid's pair: the factor of its side, from 0.5 to 4.0, and the margin of cells around a
+ * vertex, from 0 to 3. */
+static const double FACTOR = KOSHIRGA_USUAL_FACTOR;
+enum { MARGIN = KOSHIRGA_USUAL_MARGIN };
+
 /* ---- what every program needs */
 
 /* What to tell the user, by the number that a call answers. */
 static const char *const REFUSALS[] = {
     [KOSHIRGA_FREQUENCY] = "the frequency is below 1 or above 80",
     [KOSHIRGA_COUNT] = "no vertex, over 65536 of them, positions not three a vertex, or a side "
-                       "that isn't the count's",
+                       "that isn't that of count and factor",
     [KOSHIRGA_STARTS] = "a start list has a wrong length or runs past its ids or triples, or a "
                         "neighbour list is over 32",
     [KOSHIRGA_ID] = "an id is not below the vertex count",
@@ -39,6 +44,8 @@ static const char *const REFUSALS[] = {
     [KOSHIRGA_UNREACHED] = "the mesh is not connected",
     [KOSHIRGA_STARTS_SPAN] = "the first start isn't 0, or the last isn't the number of entries",
     [KOSHIRGA_STARTS_FALL] = "a start is below the one before it",
+    [KOSHIRGA_FACTOR] = "the grid's factor isn't finite, or is below 0.5 or above 4.0",
+    [KOSHIRGA_MARGIN] = "the grid's margin is above 3",
 };
 
 /* Ends the program where a call was refused; index is that of its answer. */
@@ -77,13 +84,16 @@ typedef struct balloon {
     double *levels;
 } balloon;
 
-/* A cube grid, its slices cut to the lengths that a query asks for. */
-typedef struct cube_grid {
-    uint32_t side;
-    size_t cell_starts_length, cell_ids_length, triangle_starts_length, triples_length;
-    uint32_t *cell_starts, *triangle_starts;
-    uint16_t *cell_ids, *triples;
-} cube_grid;
+static koshirga_mesh mesh_of(const balloon *b) {
+    return (koshirga_mesh){
+        .positions = b->positions,
+        .positions_length = 3 * b->vertices,
+        .starts = b->starts,
+        .starts_length = b->vertices + 1,
+        .entries = b->neighbours,
+        .entries_length = b->entries,
+    };
+}
 
 /* ---- the steps */
 
@@ -117,8 +127,7 @@ static uint32_t *renumber_by_walk(balloon *b) {
     uint32_t *order = room(b->vertices, sizeof *order);
     uint32_t *queue = room(b->vertices, sizeof *queue);
     koshirga_walk_answer walk =
-        koshirga_walk(b->positions, 3 * b->vertices, b->starts, b->vertices + 1, b->neighbours,
-                      b->entries, order, b->vertices, queue, b->vertices);
+        koshirga_walk_mesh(mesh_of(b), order, b->vertices, queue, b->vertices);
     accepted_at("the walk", walk.refusal, walk.index);
 
     /* Each scratch slice is as long as the longest slice of the call. */
@@ -142,27 +151,31 @@ static uint32_t *renumber_by_walk(balloon *b) {
     return order;
 }
 
-static cube_grid make_grid(const balloon *b) {
-    /* The side, as koshirga.h gives it: the ceiling of root(count/6) * 1.2, at least 2. */
-    double side = koshirga_ceil(koshirga_sqrt((double)b->vertices / 6) * 1.2);
-    cube_grid g = {.side = side < 2 ? 2 : (uint32_t)side};
-    g.cell_starts_length = 6 * (size_t)g.side * g.side + 1;
-    g.triangle_starts_length = b->vertices + 1;
-    size_t ids_room = 27 * b->vertices;   /* three faces, nine cells each, at most */
-    size_t triples_room = 3 * b->entries; /* of a lattice: 180n^2, three ids a triple */
-    g.cell_starts = room(g.cell_starts_length, sizeof *g.cell_starts);
-    g.cell_ids = room(ids_room, sizeof *g.cell_ids);
-    g.triangle_starts = room(g.triangle_starts_length, sizeof *g.triangle_starts);
-    g.triples = room(triples_room, sizeof *g.triples);
-    koshirga_build_answer built = koshirga_build_grid(
-        b->positions, 3 * b->vertices, b->starts, b->vertices + 1, b->neighbours, b->entries,
-        g.cell_starts, g.cell_starts_length, g.cell_ids, ids_room, g.triangle_starts,
-        g.triangle_starts_length, g.triples, triples_room);
+/* Slices that are long enough for the balloon's grid. */
+static koshirga_grid_slices room_for_grid(const balloon *b) {
+    /* The side, as koshirga.h gives it: the ceiling of root(count/6) * FACTOR, at least 2. */
+    double across = koshirga_ceil(koshirga_sqrt((double)b->vertices / 6) * FACTOR);
+    size_t side = across > 2 ? (size_t)across : 2;
+    size_t near = 2 * MARGIN + 1;
+    koshirga_grid_slices lent = {
+        .cell_starts_length = 6 * side * side + 1,
+        .cell_ids_length = 3 * near * near * b->vertices, /* on three faces at most */
+        .triangle_starts_length = b->vertices + 1,
+        .triples_length = 3 * b->entries, /* of a lattice: 180n^2, three ids a triple */
+    };
+    lent.cell_starts = room(lent.cell_starts_length, sizeof *lent.cell_starts);
+    lent.cell_ids = room(lent.cell_ids_length, sizeof *lent.cell_ids);
+    lent.triangle_starts = room(lent.triangle_starts_length, sizeof *lent.triangle_starts);
+    lent.triples = room(lent.triples_length, sizeof *lent.triples);
+    return lent;
+}
+
+/* The balloon's grid in the lent slices, which a query gets cut to what was filled. */
+static koshirga_grid make_grid(const balloon *b, koshirga_grid_slices lent) {
+    koshirga_grid grid = {0};
+    koshirga_build_answer built = koshirga_build_grid_of(mesh_of(b), FACTOR, MARGIN, lent, &grid);
     accepted_at("the grid", built.refusal, built.index);
-    /* What is behind the last part was not filled. */
-    g.cell_ids_length = g.cell_starts[g.cell_starts_length - 1];
-    g.triples_length = 3 * (size_t)g.triangle_starts[g.triangle_starts_length - 1];
-    return g;
+    return grid;
 }
 
 /* ---- what is printed */
@@ -195,17 +208,12 @@ static koshirga_analytic_answer ask_analytic(const balloon *b, koshirga_vector3 
     return at;
 }
 
-static void ask_grid(const balloon *b, const cube_grid *g, koshirga_vector3 direction) {
-    koshirga_located_answer at = koshirga_grid_locate(
-        b->positions, 3 * b->vertices, g->side, g->cell_starts, g->cell_starts_length, g->cell_ids,
-        g->cell_ids_length, g->triangle_starts, g->triangle_starts_length, g->triples,
-        g->triples_length, direction);
+static void ask_grid(const balloon *b, const koshirga_grid *grid, koshirga_vector3 direction) {
+    koshirga_located_answer at = koshirga_locate_in(grid, direction);
     accepted_at("the location", at.refusal, at.index);
-    koshirga_nearest_answer nearest = koshirga_grid_nearest(
-        b->positions, 3 * b->vertices, g->side, g->cell_starts, g->cell_starts_length, g->cell_ids,
-        g->cell_ids_length, g->triangle_starts, g->triangle_starts_length, direction);
+    koshirga_nearest_answer nearest = koshirga_nearest_in(grid, direction);
     accepted_at("the nearest vertex", nearest.refusal, nearest.index);
-    printf("grid of side %u, in walk order\n", (unsigned)g->side);
+    printf("grid of side %u, in walk order\n", (unsigned)grid->side);
     print_location(
         (const uint32_t[]){at.first, at.second, at.third}, (const double[]){at.u, at.v, at.w},
         (const double[]){b->levels[at.first], b->levels[at.second], b->levels[at.third]});
@@ -242,8 +250,9 @@ int main(int argc, char **argv) {
     koshirga_analytic_answer analytic = ask_analytic(&b, direction);
 
     uint32_t *order = renumber_by_walk(&b);
-    cube_grid g = make_grid(&b);
-    ask_grid(&b, &g, direction);
+    koshirga_grid_slices lent = room_for_grid(&b);
+    koshirga_grid grid = make_grid(&b, lent);
+    ask_grid(&b, &grid, direction);
     /* The id table keeps the lattice's numbering: its answers are taken through the walk's order.
      */
     printf("    the analytic triple in walk order: %u %u %u\n", (unsigned)order[analytic.first],
@@ -255,9 +264,9 @@ int main(int argc, char **argv) {
     free(b.neighbours);
     free(b.table);
     free(b.levels);
-    free(g.cell_starts);
-    free(g.cell_ids);
-    free(g.triangle_starts);
-    free(g.triples);
+    free(lent.cell_starts);
+    free(lent.cell_ids);
+    free(lent.triangle_starts);
+    free(lent.triples);
     return 0;
 }

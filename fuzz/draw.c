@@ -130,6 +130,81 @@ size_t any_length(draw *d, size_t needed) {
     }
 }
 
+/* ---- pairs */
+
+/* Some ulps from a number above 0, the next double as a rule. */
+static double beside(draw *d, double x, bool above) {
+    uint64_t ulps = one_in(d, 4) ? 2 + below(d, 3) : 1;
+    return from_bits(above ? bits_of(x) + ulps : bits_of(x) - ulps);
+}
+
+/* The root of a sixth of the count times this is a whole number, or some ulps beside one. */
+static double at_a_step(draw *d, size_t count) {
+    double root = sqrt((double)count / 6);
+    double whole = 1 + (double)below(d, 1 + (uint32_t)(root * FACTOR_GREATEST));
+    return from_bits(bits_of(whole / root) + below(d, 5) - 2);
+}
+
+double allowed_factor(draw *d, size_t count) {
+    double step = at_a_step(d, count);
+    switch (below(d, 8)) {
+    case 0: return one_in(d, 2) ? FACTOR_LEAST : FACTOR_GREATEST;
+    case 1: return one_in(d, 2) ? beside(d, FACTOR_LEAST, true) : beside(d, FACTOR_GREATEST, false);
+    case 2: return one_in(d, 4) ? 1.2 : beside(d, 1.2, one_in(d, 2));
+    case 3: return 0.5 + 0.5 * below(d, 8);
+    case 4:
+    case 5:
+        if (step >= FACTOR_LEAST && step <= FACTOR_GREATEST)
+            return step;
+        break;
+    default: break;
+    }
+    return 2.25 + 1.75 * signed_unit(d);
+}
+
+double factor_of_side(draw *d, uint32_t side, size_t count) {
+    double cells = (double)side - 0.5 - 0.5 * signed_unit(d);
+    return fmin(fmax(cells / sqrt((double)count / 6), FACTOR_LEAST), FACTOR_GREATEST);
+}
+
+double wrong_factor(draw *d) {
+    uint64_t sign = one_in(d, 2) ? UINT64_C(1) << 63 : 0;
+    switch (below(d, 10)) {
+    case 0: return beside(d, FACTOR_LEAST, false);
+    case 1: return beside(d, FACTOR_GREATEST, true);
+    case 2: return from_bits(UINT64_C(0x7ff8000000000000) | sign | any_bits(d) >> 13);
+    case 3: return from_bits(UINT64_C(0x7ff0000000000000) | sign | any_bits(d) >> 13 | 1);
+    case 4: return sign ? -INFINITY : INFINITY;
+    case 5: return sign ? -0.0 : 0.0;
+    case 6: return -allowed_factor(d, 1 + below(d, 9));
+    case 7: return from_bits(sign | any_bits(d) >> 12 | 1); /* below every normal number */
+    case 8: return sign ? 4.5 + 0.5 * below(d, 100) : 0.49 * fabs(signed_unit(d));
+    default: return one_in(d, 2) ? from_bits(any_bits(d)) : any_double(d);
+    }
+}
+
+uint32_t wrong_margin(draw *d) {
+    switch (below(d, 5)) {
+    case 0: return MARGIN_MAX + 1;
+    case 1: return MARGIN_MAX + 2 + below(d, 8);
+    case 2: return (UINT32_C(1) << (8 + below(d, 24))) + below(d, MARGIN_MAX + 1);
+    case 3: return UINT32_MAX - below(d, 3);
+    default: return MARGIN_MAX + 1 + (uint32_t)(any_bits(d) % (UINT32_MAX - MARGIN_MAX));
+    }
+}
+
+settings any_settings(draw *d, size_t count) {
+    if (!one_in(d, count > 5000 ? 2 : 4)) /* so large a count is rare */
+        return USUAL_PAIR;
+    settings pair = {allowed_factor(d, count), below(d, MARGIN_MAX + 1)};
+    uint32_t wrong = below(d, 16);
+    if (wrong < 3)
+        pair.factor = wrong_factor(d);
+    if (wrong >= 2 && wrong < 5)
+        pair.margin = wrong_margin(d);
+    return pair;
+}
+
 /* ---- meshes */
 
 static double positions_room[POSITIONS_ROOM];
@@ -258,6 +333,13 @@ static mesh any_slices(draw *d) {
 
 mesh any_mesh(draw *d) {
     uint32_t kind = below(d, 256);
+    /* Large meshes are drawn whatever the next bytes are: libFuzzer changes an input many times,
+     * and where bytes decided, a run would spend most of its time on large meshes, or draw few. */
+    uint64_t large = any_bits(d) % 4096;
+    if (large < 3)
+        return greatest_mesh(d);
+    if (large < 5)
+        return lattice_mesh(1 + below(d, FREQUENCY_MAX));
     if (kind < 40)
         return lattice_mesh(1);
     if (kind < 70)
@@ -265,10 +347,7 @@ mesh any_mesh(draw *d) {
     if (kind < 80)
         return lattice_mesh(3);
     if (kind == 80 && one_in(d, 16))
-        return one_in(d, 8) ? lattice_mesh(1 + below(d, FREQUENCY_MAX))
-                            : lattice_mesh(4 + below(d, 6));
-    if (kind == 81 && one_in(d, 16))
-        return greatest_mesh(d);
+        return lattice_mesh(4 + below(d, 6));
     if (kind < 110)
         return fan_mesh(d);
     if (kind < 150)

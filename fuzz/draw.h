@@ -40,6 +40,24 @@ enum { SURPLUS_MAX = 40 };
  */
 size_t any_length(draw *d, size_t needed);
 
+/* Row 19 lets it pass: the ends, 1.2, the doubles next to these, halves, doubles at which the side
+ * of this count, which is above 0, steps, and any between. */
+double allowed_factor(draw *d, size_t count);
+
+/* Row 19 lets it pass, and the side of this count, which is above 0, is the given one as a rule,
+ * where a factor has it. */
+double factor_of_side(draw *d, uint32_t side, size_t count);
+
+/* Row 19 refuses it, but for some of any bits: the doubles next to the ends, NaNs of both signs and
+ * all payloads, infinities, zeros, negatives, subnormals. */
+double wrong_factor(draw *d);
+
+/* Row 20 refuses it: 4 or a little more, the greatest, low bits that alone would pass, any. */
+uint32_t wrong_margin(draw *d);
+
+/* A pair for a count above 0: the usual one as a rule; allowed ones; one of both wrong, or both. */
+settings any_settings(draw *d, size_t count);
+
 /* Room in which a mesh is drawn and then damaged. */
 enum {
     POSITIONS_ROOM = 3 * (VERTEX_MAX + 2),

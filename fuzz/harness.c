@@ -104,11 +104,12 @@ static uint32_t any_frequency(draw *d, uint32_t large_one_in) {
 
 static bool is_frequency(uint32_t n) { return n >= 1 && n <= FREQUENCY_MAX; }
 
-/* Bytes to fill slices with. */
-static uint8_t garbage[16 << 20];
+/* Bytes to fill slices with, from any of so many places. */
+enum { GARBAGE_PLACES = 1 << 20 };
+static uint8_t garbage[GARBAGE_PLACES * sizeof(uint64_t) + LENT_BYTES];
 
 static const void *any_garbage(draw *d) {
-    return garbage + any_bits(d) % (1 << 20) * sizeof(uint64_t);
+    return garbage + any_bits(d) % GARBAGE_PLACES * sizeof(uint64_t);
 }
 
 /* The id table of a lattice, with some ids put wrong at times. Gives its length, surplus
@@ -234,8 +235,18 @@ static void count_starts(entry of, const mesh *m, uint32_t row, size_t index) {
         count_way(of, WAY_FALL_AND_LONG);
 }
 
+/* Whether the header's call that takes structs stands in for the archive's own. */
+static bool by_structs(draw *d) { return one_in(d, 8); }
+
+static koshirga_mesh mesh_struct(const mesh *m) {
+    return (koshirga_mesh){m->positions,     m->positions_length, m->starts,
+                           m->starts_length, m->entries,          m->entries_length};
+}
+
 static void call_walk(draw *d, const mesh *drawn) {
     mesh e, m = lend_mesh(d, drawn, &e);
+    bool structs = by_structs(d);
+    entry of = structs ? ENTRY_walk_mesh : ENTRY_walk;
     size_t vertices = m.positions_length / 3;
     size_t order_length = any_length(d, vertices), queue_length = any_length(d, vertices);
     lent order = lend(3, any_garbage(d), order_length, sizeof(uint32_t), one_in(d, 2));
@@ -243,19 +254,21 @@ static void call_walk(draw *d, const mesh *drawn) {
     koshirga_walk_answer expected =
         expected_walk(&e, order.expected, order_length, queue.expected, queue_length);
     koshirga_walk_answer answer =
-        koshirga_walk(m.positions, m.positions_length, m.starts, m.starts_length, m.entries,
-                      m.entries_length, order.at, order_length, queue.at, queue_length);
-    hold_row(ENTRY_walk, expected.refusal, answer.refusal);
-    hold_index(ENTRY_walk, answer.refusal, expected.index, answer.index);
-    hold(ENTRY_walk, expected.entries_read == answer.entries_read, "the count of entries");
-    hold_mesh(ENTRY_walk);
-    hold(ENTRY_walk, as_expected(3), "the order");
-    hold(ENTRY_walk, as_expected(4), "the queue");
+        structs
+            ? koshirga_walk_mesh(mesh_struct(&m), order.at, order_length, queue.at, queue_length)
+            : koshirga_walk(m.positions, m.positions_length, m.starts, m.starts_length, m.entries,
+                            m.entries_length, order.at, order_length, queue.at, queue_length);
+    hold_row(of, expected.refusal, answer.refusal);
+    hold_index(of, answer.refusal, expected.index, answer.index);
+    hold(of, expected.entries_read == answer.entries_read, "the count of entries");
+    hold_mesh(of);
+    hold(of, as_expected(3), "the order");
+    hold(of, as_expected(4), "the queue");
     const uint32_t *ids = queue.at, *places = order.at;
     for (uint32_t i = 0; !answer.refusal && i < vertices; i++)
-        hold(ENTRY_walk, ids[i] < vertices && places[ids[i]] == i, "queue and order are inverse");
-    count(ENTRY_walk, answer.refusal);
-    count_starts(ENTRY_walk, &e, answer.refusal, answer.index);
+        hold(of, ids[i] < vertices && places[ids[i]] == i, "queue and order are inverse");
+    count(of, answer.refusal);
+    count_starts(of, &e, answer.refusal, answer.index);
 }
 
 static size_t any_entries_per_vertex(draw *d, size_t vertices) {
@@ -357,7 +370,12 @@ static void call_renumber(draw *d, mesh *drawn) {
 /* ---- grid */
 
 /* Room for a grid that is damaged and then queried. */
-enum { CELLS_ROOM = 6 * 130 * 130, IDS_ROOM = 27 * VERTEX_MAX + 2, TRIPLES_ROOM = 3 << 20 };
+enum {
+    SIDE_MAX = 420,
+    CELLS_ROOM = 6 * SIDE_MAX * SIDE_MAX + 2,
+    IDS_ROOM = 147 * VERTEX_MAX + 2,
+    TRIPLES_ROOM = 3 << 20
+};
 
 static double query_positions[POSITIONS_ROOM];
 static uint32_t query_cell_starts[CELLS_ROOM], query_triangle_starts[STARTS_ROOM];
@@ -369,6 +387,17 @@ static grid query_room(void) {
                   .triangle_starts = query_triangle_starts,
                   .triples = query_triples};
 }
+
+/* What a query takes, but for the direction; and pair and side as the grid was built with them. */
+typedef struct query {
+    double *positions;
+    size_t positions_length;
+    settings pair;
+    uint32_t side;
+    grid grid;
+    settings built_pair;
+    uint32_t built_side;
+} query;
 
 /* Lends a grid as slices 3 to 6. `expected` gets their copies. */
 static grid lend_grid(draw *d, const grid *g, grid *expected) {
@@ -392,23 +421,113 @@ static void hold_grid(entry of) {
     hold(of, as_expected(6), "the triples");
 }
 
-/* Cells and triangles that a built grid has: parts that are filled, ids below the count. */
-static void hold_built(const grid *g, const grid *lengths) {
+/* Cells and triangles that a built grid has: a side, parts that are filled, ids below the count, no
+ * more cells to a vertex than three faces have about it. */
+static void hold_built(entry of, const grid *g, const grid *lengths, settings pair, uint32_t side) {
+    static uint32_t cells_of_id[VERTEX_MAX];
     size_t vertices = lengths->triangle_starts_length - 1;
-    size_t cells = lengths->cell_starts_length - 1;
-    hold(ENTRY_build_grid, g->cell_starts[cells] == lengths->cell_ids_length,
-         "the last cell's end");
-    hold(ENTRY_build_grid, 3 * (size_t)g->triangle_starts[vertices] == lengths->triples_length,
+    size_t cells = 6 * (size_t)side * side, across = 2 * (size_t)pair.margin + 1;
+    size_t most = 3 * across * across;
+    hold(of, side >= 2 && side <= SIDE_MAX, "a side from 2 to 420");
+    hold(of, g->cell_starts[cells] == lengths->cell_ids_length, "the last cell's end");
+    hold(of, g->cell_starts[cells] <= most * vertices, "at most so many ids");
+    hold(of, 3 * (size_t)g->triangle_starts[vertices] == lengths->triples_length,
          "the last triangle's end");
-    bool below_count = true, ascending = true;
-    for (size_t i = 0; i < lengths->cell_ids_length; i++)
+    bool below_count = true, ascending = true, few = true;
+    memset(cells_of_id, 0, vertices * sizeof *cells_of_id);
+    for (size_t i = 0; i < lengths->cell_ids_length; i++) {
         below_count &= g->cell_ids[i] < vertices;
+        few &= ++cells_of_id[g->cell_ids[i]] <= most;
+    }
     for (size_t i = 0; i < lengths->triples_length; i += 3) {
         below_count &= g->triples[i + 2] < vertices;
         ascending &= g->triples[i] < g->triples[i + 1] && g->triples[i + 1] < g->triples[i + 2];
     }
-    hold(ENTRY_build_grid, below_count, "ids below the count");
-    hold(ENTRY_build_grid, ascending, "ascending triples");
+    hold(of, below_count, "ids below the count");
+    hold(of, few, "at most so many ids of a vertex");
+    hold(of, ascending, "ascending triples");
+}
+
+/* Counts what the factor was that row 19 refused. */
+static void count_factor(entry of, double factor) {
+    count_way(of, isnan(factor)   ? WAY_FACTOR_NAN
+                  : isinf(factor) ? WAY_FACTOR_INFINITE
+                  : factor == 0   ? WAY_FACTOR_ZERO
+                  : factor < 0    ? WAY_FACTOR_NEGATIVE
+                  : factor < 0.5  ? WAY_FACTOR_BELOW
+                                  : WAY_FACTOR_ABOVE);
+    if (fpclassify(factor) == FP_SUBNORMAL)
+        count_way(of, WAY_FACTOR_SUBNORMAL);
+    if (factor == nextafter(0.5, 0))
+        count_way(of, WAY_FACTOR_NEXT_BELOW);
+    if (factor == nextafter(4, 5))
+        count_way(of, WAY_FACTOR_NEXT_ABOVE);
+}
+
+/* Counts what the pair was that was refused, or accepted. */
+static void count_pair(entry of, settings pair, uint32_t row) {
+    double factor = pair.factor;
+    if (row == 19) {
+        count_factor(of, factor);
+        if (pair.margin > MARGIN_MAX)
+            count_way(of, WAY_FACTOR_AND_MARGIN);
+    }
+    if (row == 20)
+        count_way(of, pair.margin == MARGIN_MAX + 1 ? WAY_MARGIN_NEXT : WAY_MARGIN_ABOVE);
+    if (row)
+        return;
+    count_way(of, WAY_MARGIN_0 + pair.margin);
+    if (factor == 0.5)
+        count_way(of, WAY_LEAST);
+    if (factor == nextafter(0.5, 1))
+        count_way(of, WAY_LEAST_NEXT);
+    if (factor == nextafter(4, 0))
+        count_way(of, WAY_GREATEST_NEXT);
+    if (factor == 4)
+        count_way(of, WAY_GREATEST);
+    if (factor == nextafter(1.2, 0) || factor == nextafter(1.2, 2))
+        count_way(of, WAY_USUAL_NEXT);
+    if (factor == 1.2 && pair.margin == 1)
+        count_way(of, WAY_USUAL);
+}
+
+/* Counts what else a build would have been refused for, or was. */
+static void count_build(entry of, settings pair, const grid *given, const grid *needed,
+                        uint32_t row) {
+    bool short_room = given->triangle_starts_length < needed->triangle_starts_length ||
+                      given->triples_length < needed->triples_length;
+    count_pair(of, pair, row);
+    if (row == 5 && settings_row(pair))
+        count_way(of, settings_row(pair) == 19 ? WAY_POSITION_AND_FACTOR : WAY_POSITION_AND_MARGIN);
+    if ((row == 19 || row == 20) && short_room)
+        count_way(of, row == 19 ? WAY_FACTOR_AND_ROOM : WAY_MARGIN_AND_ROOM);
+}
+
+/* The struct that a build leaves: the grid with its slices cut to their lengths, or what it was. */
+static void hold_struct(const koshirga_grid *left, const koshirga_grid *before, const mesh *m,
+                        settings pair, const grid *g, const grid *lengths,
+                        koshirga_build_answer answer) {
+    if (answer.refusal) {
+        hold(ENTRY_build_grid_of, memcmp(left, before, sizeof *left) == 0, "the struct changed");
+        return;
+    }
+    hold(ENTRY_build_grid_of,
+         left->positions == m->positions && left->positions_length == m->positions_length,
+         "the struct's positions");
+    hold(ENTRY_build_grid_of,
+         bits_of(left->factor) == bits_of(pair.factor) && left->margin == pair.margin,
+         "the struct's pair");
+    hold(ENTRY_build_grid_of, left->side == answer.side, "the struct's side");
+    hold(ENTRY_build_grid_of,
+         left->cell_starts == g->cell_starts &&
+             left->cell_starts_length == lengths->cell_starts_length &&
+             left->cell_ids == g->cell_ids && left->cell_ids_length == lengths->cell_ids_length,
+         "the struct's cells");
+    hold(ENTRY_build_grid_of,
+         left->triangle_starts == g->triangle_starts &&
+             left->triangle_starts_length == lengths->triangle_starts_length &&
+             left->triples == g->triples && left->triples_length == lengths->triples_length,
+         "the struct's triangles");
 }
 
 /* Copies a slice into its room, with a 0 behind it, as it may be lengthened. */
@@ -419,15 +538,16 @@ static void *keep(void *room, const void *from, size_t length, size_t size) {
 }
 
 /* Whether a grid was built; it is then in `built`, cut to its lengths, beside its positions. */
-static bool call_build_grid(draw *d, const mesh *drawn, grid *built, uint32_t *side) {
+static bool call_build_grid(draw *d, const mesh *drawn, query *built) {
     mesh e, m = lend_mesh(d, drawn, &e);
-    bool passes = mesh_row(&e, true).refusal == 0;
+    size_t vertices = e.positions_length / 3;
+    settings pair = any_settings(d, vertices ? vertices : 1);
     grid needed = {.cell_starts_length = 25,
                    .cell_ids_length = 30,
-                   .triangle_starts_length = e.positions_length / 3 + 1,
+                   .triangle_starts_length = vertices + 1,
                    .triples_length = 30};
-    if (passes)
-        needed = grid_lengths(&e);
+    if (mesh_row(&e, true).refusal == 0)
+        needed = grid_lengths(&e, settings_row(pair) ? USUAL_PAIR : pair);
     if (needed.triples_length + 2 > TRIPLES_ROOM)
         abort(); /* no drawn mesh has so many */
     grid given = needed, g_expected;
@@ -441,48 +561,59 @@ static bool call_build_grid(draw *d, const mesh *drawn, grid *built, uint32_t *s
         given.triples_length = any_length(d, needed.triples_length);
     }
     grid g = lend_grid(d, &given, &g_expected);
-    koshirga_build_answer expected = expected_build_grid(&e, &g_expected);
-    koshirga_build_answer answer = koshirga_build_grid(
-        m.positions, m.positions_length, m.starts, m.starts_length, m.entries, m.entries_length,
-        g.cell_starts, g.cell_starts_length, g.cell_ids, g.cell_ids_length, g.triangle_starts,
-        g.triangle_starts_length, g.triples, g.triples_length);
-    hold_row(ENTRY_build_grid, expected.refusal, answer.refusal);
-    hold_index(ENTRY_build_grid, answer.refusal, expected.index, answer.index);
-    hold(ENTRY_build_grid, expected.side == answer.side, "the side");
-    hold_mesh(ENTRY_build_grid);
-    hold_grid(ENTRY_build_grid);
-    count(ENTRY_build_grid, answer.refusal);
-    count_starts(ENTRY_build_grid, &e, answer.refusal, answer.index);
+    koshirga_build_answer expected = expected_build_grid(&e, pair, &g_expected), answer;
+    bool structs = by_structs(d);
+    entry of = structs ? ENTRY_build_grid_of : ENTRY_build_grid;
+    if (structs) {
+        koshirga_grid left, before;
+        memcpy(&before, any_garbage(d), sizeof before);
+        memcpy(&left, &before, sizeof left);
+        koshirga_grid_slices slices = {
+            g.cell_starts,     g.cell_starts_length,     g.cell_ids, g.cell_ids_length,
+            g.triangle_starts, g.triangle_starts_length, g.triples,  g.triples_length};
+        answer = koshirga_build_grid_of(mesh_struct(&m), pair.factor, pair.margin, slices, &left);
+        hold_row(of, expected.refusal, answer.refusal);
+        hold_struct(&left, &before, &m, pair, &g, &needed, answer);
+    } else {
+        answer = koshirga_build_grid(
+            m.positions, m.positions_length, m.starts, m.starts_length, m.entries, m.entries_length,
+            g.cell_starts, g.cell_starts_length, g.cell_ids, g.cell_ids_length, g.triangle_starts,
+            g.triangle_starts_length, g.triples, g.triples_length, pair.factor, pair.margin);
+        hold_row(of, expected.refusal, answer.refusal);
+    }
+    hold_index(of, answer.refusal, expected.index, answer.index);
+    hold(of, expected.side == answer.side, "the side");
+    hold_mesh(of);
+    hold_grid(of);
+    count(of, answer.refusal);
+    count_starts(of, &e, answer.refusal, answer.index);
+    count_build(of, pair, &given, &needed, answer.refusal);
     if (answer.refusal)
         return false;
-    hold_built(&g, &needed);
-    *built = needed;
-    *side = answer.side;
+    hold_built(of, &g, &needed, pair, answer.side);
+    count_side(answer.side);
+    *built =
+        (query){query_positions, m.positions_length, pair, answer.side, needed, pair, answer.side};
     keep(query_positions, m.positions, m.positions_length, sizeof *m.positions);
-    built->cell_starts =
+    built->grid.cell_starts =
         keep(query_cell_starts, g.cell_starts, needed.cell_starts_length, sizeof(uint32_t));
-    built->cell_ids = keep(query_cell_ids, g.cell_ids, needed.cell_ids_length, sizeof(uint16_t));
-    built->triangle_starts = keep(query_triangle_starts, g.triangle_starts,
-                                  needed.triangle_starts_length, sizeof(uint32_t));
-    built->triples = keep(query_triples, g.triples, needed.triples_length, sizeof(uint16_t));
+    built->grid.cell_ids =
+        keep(query_cell_ids, g.cell_ids, needed.cell_ids_length, sizeof(uint16_t));
+    built->grid.triangle_starts = keep(query_triangle_starts, g.triangle_starts,
+                                       needed.triangle_starts_length, sizeof(uint32_t));
+    built->grid.triples = keep(query_triples, g.triples, needed.triples_length, sizeof(uint16_t));
     return true;
 }
 
 /* ---- grid queries */
 
-/* What a query takes, but for the direction. */
-typedef struct query {
-    double *positions;
-    size_t positions_length;
-    uint32_t side;
-    grid grid;
-} query;
-
 /* Lends positions as slice 0 and the grid as slices 3 to 6. */
 static query lend_query(draw *d, const query *q, query *expected) {
     lent positions = lend(0, q->positions, q->positions_length, sizeof(double), one_in(d, 2));
-    query lent_query = {positions.at, positions.length, q->side, {0}};
-    *expected = (query){positions.expected, positions.length, q->side, {0}};
+    query lent_query = *q;
+    *expected = *q;
+    lent_query.positions = positions.at;
+    expected->positions = positions.expected;
     lent_query.grid = lend_grid(d, &q->grid, &expected->grid);
     return lent_query;
 }
@@ -490,6 +621,62 @@ static query lend_query(draw *d, const query *q, query *expected) {
 static void hold_query(entry of) {
     hold(of, as_expected(0), "the positions");
     hold_grid(of);
+}
+
+static koshirga_nearest_answer nearest_of(const query *e, vector v) {
+    return expected_grid_nearest(e->positions, e->positions_length, e->pair, e->side, &e->grid, v);
+}
+
+static koshirga_located_answer located_of(const query *e, vector v) {
+    return expected_grid_locate(e->positions, e->positions_length, e->pair, e->side, &e->grid, v);
+}
+
+static koshirga_grid grid_struct(const query *q) {
+    return (koshirga_grid){.positions = q->positions,
+                           .positions_length = q->positions_length,
+                           .factor = q->pair.factor,
+                           .margin = q->pair.margin,
+                           .side = q->side,
+                           .cell_starts = q->grid.cell_starts,
+                           .cell_starts_length = q->grid.cell_starts_length,
+                           .cell_ids = q->grid.cell_ids,
+                           .cell_ids_length = q->grid.cell_ids_length,
+                           .triangle_starts = q->grid.triangle_starts,
+                           .triangle_starts_length = q->grid.triangle_starts_length,
+                           .triples = q->grid.triples,
+                           .triples_length = q->grid.triples_length};
+}
+
+/* Counts what the recorded pair was, and what else was wrong or had been changed. */
+static void count_record(entry of, const query *e, vector v, uint32_t row) {
+    size_t vertices = e->positions_length / 3;
+    bool positions = vertices > 0 && vertices <= VERTEX_MAX && e->positions_length % 3 == 0;
+    uint32_t pair_row = settings_row(e->pair);
+    uint32_t side = positions && !pair_row ? grid_side(e->pair.factor, vertices) : 0;
+    bool lengths = e->grid.cell_starts_length == 6 * (size_t)e->side * e->side + 1 &&
+                   e->grid.triangle_starts_length == vertices + 1;
+    bool other_factor = e->pair.factor != e->built_pair.factor;
+    count_pair(of, e->pair, row);
+    if (row == 2 && !positions && pair_row)
+        count_way(of, pair_row == 19 ? WAY_COUNT_AND_FACTOR : WAY_COUNT_AND_MARGIN);
+    if (row == 19 && (e->side < 2 || e->side > SIDE_MAX))
+        count_way(of, WAY_FACTOR_AND_SIDE);
+    if (row == 20 && e->side != grid_side(e->pair.factor, vertices))
+        count_way(of, WAY_MARGIN_AND_SIDE);
+    if ((row == 19 || row == 20) && !lengths)
+        count_way(of, WAY_PAIR_AND_LENGTH);
+    if ((row == 19 || row == 20) && expected_direction(v))
+        count_way(of, WAY_PAIR_AND_DIRECTION);
+    if (row == 2 && positions)
+        count_way(of, WAY_SIDE);
+    if (row == 2 && positions && e->side == grid_side(1.2, vertices) && e->side != side)
+        count_way(of, WAY_SIDE_OF_USUAL);
+    if (row == 3 && !lengths && other_factor && e->side != e->built_side)
+        count_way(of, WAY_SIDE_BUT_LENGTH);
+    if (row == 0 && other_factor)
+        count_way(of, WAY_FACTOR_CHANGED);
+    if (row == 0 && e->pair.margin != e->built_pair.margin)
+        count_way(of, WAY_MARGIN_CHANGED);
 }
 
 /* Counts how a query refused the lengths of its starts, or the part that it read. */
@@ -505,7 +692,7 @@ static void count_part(entry of, const query *e, vector v, uint32_t row, size_t 
         count_way(of, WAY_VERTEX_LENGTH);
         return;
     }
-    bool in_cell = expected_grid_nearest(e->positions, e->positions_length, e->side, g, v).refusal;
+    bool in_cell = nearest_of(e, v).refusal;
     if (row == 3) {
         count_way(of, in_cell ? WAY_PAST_IDS : WAY_PAST_TRIPLES);
         return;
@@ -522,60 +709,71 @@ static void count_part(entry of, const query *e, vector v, uint32_t row, size_t 
         count_way(of, in_cell ? WAY_CELL_NOT_FIRST : WAY_VERTEX_NOT_FIRST);
 }
 
-static void call_nearest(const query *q, const query *e, vector v) {
+static void call_nearest(const query *q, const query *e, vector v, bool structs) {
     const grid *g = &q->grid;
-    koshirga_nearest_answer expected =
-        expected_grid_nearest(e->positions, e->positions_length, e->side, &e->grid, v);
-    koshirga_nearest_answer answer = koshirga_grid_nearest(
-        q->positions, q->positions_length, q->side, g->cell_starts, g->cell_starts_length,
-        g->cell_ids, g->cell_ids_length, g->triangle_starts, g->triangle_starts_length, v);
-    hold_row(ENTRY_grid_nearest, expected.refusal, answer.refusal);
-    hold_index(ENTRY_grid_nearest, answer.refusal, expected.index, answer.index);
-    hold(ENTRY_grid_nearest, expected.id == answer.id, "the vertex");
-    hold(ENTRY_grid_nearest, expected.candidates == answer.candidates, "the count of candidates");
-    hold(ENTRY_grid_nearest, same(expected.distance, answer.distance), "the distance");
-    hold(ENTRY_grid_nearest, answer.refusal || answer.id < q->positions_length / 3,
-         "an id below the count");
-    hold_query(ENTRY_grid_nearest);
-    count(ENTRY_grid_nearest, answer.refusal);
-    count_part(ENTRY_grid_nearest, e, v, answer.refusal, answer.index);
+    koshirga_grid as_struct = grid_struct(q);
+    entry of = structs ? ENTRY_nearest_in : ENTRY_grid_nearest;
+    koshirga_nearest_answer expected = nearest_of(e, v);
+    koshirga_nearest_answer answer =
+        structs ? koshirga_nearest_in(&as_struct, v)
+                : koshirga_grid_nearest(q->positions, q->positions_length, q->pair.factor,
+                                        q->pair.margin, q->side, g->cell_starts,
+                                        g->cell_starts_length, g->cell_ids, g->cell_ids_length,
+                                        g->triangle_starts, g->triangle_starts_length, v);
+    hold_row(of, expected.refusal, answer.refusal);
+    hold_index(of, answer.refusal, expected.index, answer.index);
+    hold(of, expected.id == answer.id, "the vertex");
+    hold(of, expected.candidates == answer.candidates, "the count of candidates");
+    hold(of, same(expected.distance, answer.distance), "the distance");
+    hold(of, answer.refusal || answer.id < q->positions_length / 3, "an id below the count");
+    hold_query(of);
+    count(of, answer.refusal);
+    count_record(of, e, v, answer.refusal);
+    count_part(of, e, v, answer.refusal, answer.index);
 }
 
-static void call_locate(const query *q, const query *e, vector v) {
+static void call_locate(const query *q, const query *e, vector v, bool structs) {
     const grid *g = &q->grid;
-    koshirga_located_answer expected =
-        expected_grid_locate(e->positions, e->positions_length, e->side, &e->grid, v);
-    koshirga_located_answer at = koshirga_grid_locate(
-        q->positions, q->positions_length, q->side, g->cell_starts, g->cell_starts_length,
-        g->cell_ids, g->cell_ids_length, g->triangle_starts, g->triangle_starts_length, g->triples,
-        g->triples_length, v);
+    koshirga_grid as_struct = grid_struct(q);
+    entry of = structs ? ENTRY_locate_in : ENTRY_grid_locate;
+    koshirga_located_answer expected = located_of(e, v);
+    koshirga_located_answer at =
+        structs
+            ? koshirga_locate_in(&as_struct, v)
+            : koshirga_grid_locate(q->positions, q->positions_length, q->pair.factor,
+                                   q->pair.margin, q->side, g->cell_starts, g->cell_starts_length,
+                                   g->cell_ids, g->cell_ids_length, g->triangle_starts,
+                                   g->triangle_starts_length, g->triples, g->triples_length, v);
     size_t vertices = q->positions_length / 3;
-    hold_row(ENTRY_grid_locate, expected.refusal, at.refusal);
-    hold_index(ENTRY_grid_locate, at.refusal, expected.index, at.index);
-    hold(ENTRY_grid_locate,
+    hold_row(of, expected.refusal, at.refusal);
+    hold_index(of, at.refusal, expected.index, at.index);
+    hold(of,
          expected.first == at.first && expected.second == at.second && expected.third == at.third,
          "the triple");
-    hold(ENTRY_grid_locate,
-         same(expected.u, at.u) && same(expected.v, at.v) && same(expected.w, at.w), "the weights");
-    hold(ENTRY_grid_locate, same(expected.least, at.least), "the least weight");
-    hold(ENTRY_grid_locate,
-         at.refusal || (at.first < vertices && at.second < vertices && at.third < vertices),
+    hold(of, same(expected.u, at.u) && same(expected.v, at.v) && same(expected.w, at.w),
+         "the weights");
+    hold(of, same(expected.least, at.least), "the least weight");
+    hold(of, at.refusal || (at.first < vertices && at.second < vertices && at.third < vertices),
          "ids below the count");
-    hold(ENTRY_grid_locate,
-         at.refusal || (!(at.u < at.least) && !(at.v < at.least) && !(at.w < at.least)),
+    hold(of, at.refusal || (!(at.u < at.least) && !(at.v < at.least) && !(at.w < at.least)),
          "no weight below the least");
-    hold_query(ENTRY_grid_locate);
-    count(ENTRY_grid_locate, at.refusal);
-    count_part(ENTRY_grid_locate, e, v, at.refusal, at.index);
+    hold_query(of);
+    count(of, at.refusal);
+    count_record(of, e, v, at.refusal);
+    count_part(of, e, v, at.refusal, at.index);
+}
+
+/* Both queries in one way, so that the archive's two get the same inputs. */
+static void call_both(draw *d, const query *q, const query *e, vector v) {
+    bool structs = by_structs(d);
+    call_nearest(q, e, v, structs);
+    call_locate(q, e, v, structs);
 }
 
 static void call_queries(draw *d, const query *drawn, int directions) {
     query e, q = lend_query(d, drawn, &e);
-    for (int i = 0; i < directions; i++) {
-        vector v = any_direction(d);
-        call_nearest(&q, &e, v);
-        call_locate(&q, &e, v);
-    }
+    for (int i = 0; i < directions; i++)
+        call_both(d, &q, &e, any_direction(d));
 }
 
 /* A start that is wrong as a rule; three times some of them is small in 32 bits. */
@@ -595,6 +793,10 @@ static void change_length(draw *d, size_t *length) {
     case 1: *length += 1; break;
     default: *length -= *length > 0; break;
     }
+}
+
+static void change_side(draw *d, uint32_t *side) {
+    *side = one_in(d, 2) ? *side + below(d, 3) - 1 : (uint32_t)any_bits(d);
 }
 
 /* Puts the starts of a part wrong, or one of them; `most` is the greatest end that fits. */
@@ -657,13 +859,39 @@ static void damage_triangles(draw *d, query *q, uint32_t *starts, size_t vertice
     }
 }
 
+/* Changes the recorded pair: to another of the same side as a rule, to another side, to one that
+ * rows 19 and 20 refuse; at times together with g or the positions. */
+static void change_pair(draw *d, query *q) {
+    size_t vertices = q->positions_length / 3, at_least_one = vertices ? vertices : 1;
+    switch (below(d, 12)) {
+    case 0: q->pair.factor = from_bits(bits_of(q->pair.factor) + 2 * below(d, 2) - 1); break;
+    case 1: q->pair.margin = below(d, MARGIN_MAX + 1); break;
+    case 2: q->pair.factor = factor_of_side(d, q->side, at_least_one); break;
+    case 3: q->pair = any_settings(d, at_least_one); break;
+    case 4: q->pair.factor = allowed_factor(d, at_least_one); break;
+    case 5:
+        q->pair.factor = allowed_factor(d, at_least_one);
+        q->side = grid_side(q->pair.factor, at_least_one);
+        break;
+    case 6:
+    case 7: q->pair.factor = wrong_factor(d); break;
+    case 8:
+    case 9: q->pair.margin = wrong_margin(d); break;
+    default: q->pair = (settings){wrong_factor(d), wrong_margin(d)}; break;
+    }
+    if (one_in(d, 8))
+        change_side(d, &q->side);
+    else if (one_in(d, 8))
+        change_length(d, &q->positions_length);
+}
+
 /* Damages a grid where a query for this direction meets it. */
 static void damage_query(draw *d, query *q, vector v) {
     grid *g = &q->grid;
     size_t vertices = q->positions_length / 3;
     uint32_t kind = below(d, 16);
     switch (kind) {
-    case 0: q->side = one_in(d, 2) ? q->side + below(d, 3) - 1 : (uint32_t)any_bits(d); return;
+    case 0: change_side(d, &q->side); return;
     case 1: change_length(d, &q->positions_length); return;
     case 2: change_length(d, &g->cell_starts_length); return;
     case 3: change_length(d, &g->triangle_starts_length); return;
@@ -672,9 +900,8 @@ static void damage_query(draw *d, query *q, vector v) {
     case 6: q->positions[any_bits(d) % q->positions_length] = any_double(d); return;
     default: break;
     }
-    koshirga_nearest_answer nearest =
-        expected_grid_nearest(q->positions, q->positions_length, q->side, g, v);
-    uint32_t row = expected_grid_locate(q->positions, q->positions_length, q->side, g, v).refusal;
+    koshirga_nearest_answer nearest = nearest_of(q, v);
+    uint32_t row = located_of(q, v).refusal;
     if (kind < 11 && (nearest.refusal == 0 || nearest.refusal == 11))
         damage_cell(d, g, g->cell_starts + cell_of(q->side, v), vertices);
     else if (row == 0 || row == 12)
@@ -684,9 +911,11 @@ static void damage_query(draw *d, query *q, vector v) {
 /* Small slices of any content, in the lengths of a grid as a rule. */
 static void any_grid(draw *d) {
     uint32_t vertices = 1 + below(d, 6);
-    query q = {query_positions, 3 * vertices, 2, query_room()};
+    settings pair = any_settings(d, vertices);
+    uint32_t side = settings_row(pair) ? 2 : grid_side(pair.factor, vertices);
+    query q = {query_positions, 3 * vertices, pair, side, query_room(), pair, side};
     grid *g = &q.grid;
-    g->cell_starts_length = 25;
+    g->cell_starts_length = 6 * (size_t)side * side + 1;
     g->cell_ids_length = below(d, 12);
     g->triangle_starts_length = vertices + 1;
     g->triples_length = below(d, 24);
@@ -719,20 +948,23 @@ static void meshes(draw *d) {
     call_renumber(d, &m);
     if (one_in(d, 2))
         call_renumber(d, &m);
-    grid built;
-    uint32_t side;
-    if (!call_build_grid(d, &m, &built, &side))
+    query q;
+    if (!call_build_grid(d, &m, &q))
         return;
-    query q = {query_positions, m.positions_length, side, built};
     call_queries(d, &q, 3);
+    query changed = q;
+    change_pair(d, &changed);
+    call_queries(d, &changed, 1);
     for (int i = 0; i < 2; i++) {
         vector v = any_direction(d);
         damage_query(d, &q, v);
-        query e, lent_query = lend_query(d, &q, &e);
-        call_nearest(&lent_query, &e, v);
-        call_locate(&lent_query, &e, v);
-        if (e.positions_length == 0 || e.side != side || e.grid.cell_starts_length == 0 ||
-            e.grid.triangle_starts_length == 0)
+        changed = q;
+        if (one_in(d, 4))
+            change_pair(d, &changed);
+        query e, lent_query = lend_query(d, &changed, &e);
+        call_both(d, &lent_query, &e, v);
+        if (q.positions_length == 0 || q.side != q.built_side || q.grid.cell_starts_length == 0 ||
+            q.grid.triangle_starts_length == 0)
             return; /* nothing is left to be damaged */
     }
 }

@@ -10,13 +10,12 @@
 #include <unistd.h>
 
 enum {
-    CAPACITY = 8 << 20, /* bytes of a slice */
-    BESIDE = 64,        /* bytes at the open end that are compared */
+    BESIDE = 64, /* bytes at the open end that are compared */
     UNTOUCHED = 0xa5
 };
 
 typedef struct place {
-    uint8_t *room, *expected_room; /* CAPACITY bytes between two pages that can't be touched */
+    uint8_t *room, *expected_room; /* LENT_BYTES bytes between two pages that can't be touched */
     uint8_t *at, *expected;
     size_t bytes, size;
 } place;
@@ -25,9 +24,9 @@ static place places[LENT_MAX];
 
 static uint8_t *guarded_room(void) {
     size_t page = (size_t)sysconf(_SC_PAGESIZE);
-    uint8_t *all = mmap(NULL, CAPACITY + 2 * page, PROT_NONE,
+    uint8_t *all = mmap(NULL, LENT_BYTES + 2 * page, PROT_NONE,
                         MAP_PRIVATE | MAP_ANONYMOUS | MAP_NORESERVE, -1, 0);
-    if (all == MAP_FAILED || mprotect(all + page, CAPACITY, PROT_READ | PROT_WRITE)) {
+    if (all == MAP_FAILED || mprotect(all + page, LENT_BYTES, PROT_READ | PROT_WRITE)) {
         perror("fuzz: no memory for lent slices");
         exit(2);
     }
@@ -41,12 +40,12 @@ lent lend(int which, const void *from, size_t length, size_t size, bool behind) 
         p->expected_room = guarded_room();
     }
     size_t bytes = length * size;
-    if (bytes > CAPACITY - BESIDE)
+    if (bytes > LENT_BYTES - BESIDE)
         abort();
     p->bytes = bytes;
     p->size = size;
-    p->at = behind && bytes ? p->room : p->room + CAPACITY - bytes;
-    p->expected = p->expected_room + CAPACITY - bytes;
+    p->at = behind && bytes ? p->room : p->room + LENT_BYTES - bytes;
+    p->expected = p->expected_room + LENT_BYTES - bytes;
     if (bytes) {
         memcpy(p->at, from, bytes);
         memcpy(p->expected, from, bytes);

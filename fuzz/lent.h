@@ -9,7 +9,9 @@
 #include <stdbool.h>
 #include <stddef.h>
 
-enum { LENT_MAX = 10 };
+/* How many there are, and the bytes of the longest: 147 ids of two bytes for each of 65,536
+ * vertices, and what is beside them. */
+enum { LENT_MAX = 10, LENT_BYTES = 20 << 20 };
 
 typedef struct lent {
     void *at;       /* what the engine gets; never null */

@@ -1,6 +1,6 @@
-/* Document 01, as change request W-209 leaves it, read a second time, in C. expected_NAME says what
- * koshirga_NAME returns, and writes what it leaves into the slices that it is given. It follows the
- * text of both and nothing of the proved code. */
+/* Document 01, as change requests W-209 and W-210 leave it, read a second time, in C. expected_NAME
+ * says what koshirga_NAME returns, and writes what it leaves into the slices that it is given. It
+ * follows the text of these papers and nothing of the proved code. */
 #ifndef READING_H
 #define READING_H
 
@@ -32,13 +32,30 @@
  *  22. a query tests its cell starts for row 17
  *  23. a location names the vertex, not the start behind it
  *  24. the renumbering gives no index
- *  25. the builder gives no index */
+ *  25. the builder gives no index
+ *  26. row 19 refuses the lower end, 0.5
+ *  27. row 19 refuses the upper end, 4.0
+ *  28. row 20 before row 19
+ *  29. a query tests g before rows 19 and 20
+ *  30. a query takes 1.2 for the recorded factor
+ *  31. a margin of 4 is accepted
+ *  32. a query doesn't test row 20
+ *  33. vertices are placed with margin 1, whichever is given
+ *  34. vertices are placed a column further on one side
+ *  35. a factor that is NaN is accepted
+ *  36. row 8 before row 19
+ *  37. rows 19 and 20 before row 5
+ *  38. a query tests rows 19 and 20 before its positions
+ *  39. a placement is clamped to the face, as a query is
+ *  40. the side is a floor and 1 more, not a ceiling
+ *  41. the factor stands under the root, as its square
+ *  42. row 8 between rows 19 and 20 */
 #ifndef MISREAD
 #define MISREAD 0
 #endif
-enum { MISREADINGS = 25 };
+enum { MISREADINGS = 42 };
 
-enum { FREQUENCY_MAX = 80, VERTEX_MAX = 65536, LIST_MAX = 32, ROWS = 18 };
+enum { FREQUENCY_MAX = 80, VERTEX_MAX = 65536, LIST_MAX = 32, MARGIN_MAX = 3, ROWS = 20 };
 
 /* Whether a row has this number, up to ROWS: 14 to 16 are nobody's. */
 bool is_row(uint32_t number);
@@ -67,6 +84,18 @@ typedef struct grid {
     uint16_t *triples;
     size_t triples_length;
 } grid;
+
+/* The pair with which a grid is built, and which its record keeps. */
+typedef struct settings {
+    double factor;
+    uint32_t margin;
+} settings;
+
+#define FACTOR_LEAST 0.5
+#define FACTOR_GREATEST 4.0
+
+/* What document 01 had before W-210. */
+#define USUAL_PAIR ((settings){1.2, 1})
 
 /* A lattice, worked out once for each frequency. */
 typedef struct lattice {
@@ -128,21 +157,26 @@ koshirga_verdict_answer expected_renumber(mesh *m, double *values, size_t values
                                           size_t entries_per_vertex,
                                           const size_t scratch_lengths[5]);
 
-uint32_t grid_side(size_t count);
+/* 19 or 20, the first of them that holds; 0 where none does. */
+uint32_t settings_row(settings pair);
 
-/* The lengths of the grid of a mesh that passes rows 2 to 5; its slices are not looked at. */
-grid grid_lengths(const mesh *m);
+/* The side for a count above 0, where row 19 lets the factor pass; for others any number. */
+uint32_t grid_side(double factor, size_t count);
 
-koshirga_build_answer expected_build_grid(const mesh *m, grid *filled);
+/* The lengths of the grid of a mesh that passes rows 2 to 5, with a pair that passes rows 19 and
+ * 20; its slices are not looked at. */
+grid grid_lengths(const mesh *m, settings pair);
+
+koshirga_build_answer expected_build_grid(const mesh *m, settings pair, grid *filled);
 
 /* The cell of a direction that passes row 9. */
 size_t cell_of(uint32_t side, koshirga_vector3 direction);
 
 koshirga_nearest_answer expected_grid_nearest(const double *positions, size_t positions_length,
-                                              uint32_t side, const grid *g,
+                                              settings pair, uint32_t side, const grid *g,
                                               koshirga_vector3 direction);
 koshirga_located_answer expected_grid_locate(const double *positions, size_t positions_length,
-                                             uint32_t side, const grid *g,
+                                             settings pair, uint32_t side, const grid *g,
                                              koshirga_vector3 direction);
 
 #endif

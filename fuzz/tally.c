@@ -15,7 +15,7 @@ static const char *const NAMES[ENTRIES] = {ENTRY_POINTS(NAME)};
 
 /* The calls that read starts, as columns. Which of them can meet a way: a bit each, the first the
  * lowest. */
-enum { COLUMNS = 5, WHOLE = 7, QUERIES = 24, LOCATION = 16 };
+enum { COLUMNS = 5, WHOLE = 7, QUERIES = 24, LOCATION = 16, BUILDER = 4, PAIRS = 28 };
 static const entry WITH_STARTS[COLUMNS] = {ENTRY_walk, ENTRY_renumber, ENTRY_build_grid,
                                            ENTRY_grid_nearest, ENTRY_grid_locate};
 #define WAY(name, calls, text) {calls, text},
@@ -29,6 +29,7 @@ static uint64_t calls[ENTRIES][ROWS + 1];
 static uint64_t ways[ENTRIES][WAY_COUNT];
 static uint64_t all_calls, inputs, facts;
 static bool built[FREQUENCY_MAX + 1];
+static uint32_t least_side = UINT32_MAX, greatest_side;
 static uint64_t calls_limit = UINT64_MAX;
 static double seconds_limit = 1e18, begun;
 
@@ -47,6 +48,11 @@ void count(entry of, uint32_t row) {
 void count_way(entry of, way met) { ways[of][met]++; }
 
 void count_lattice(uint32_t frequency) { built[frequency] = true; }
+
+void count_side(uint32_t side) {
+    least_side = side < least_side ? side : least_side;
+    greatest_side = side > greatest_side ? side : greatest_side;
+}
 
 void hold(entry of, bool fact, const char *what) {
     facts++;
@@ -152,28 +158,33 @@ static void print_rows(void) {
     printf("\n");
 }
 
-static void print_ways(void) {
-    printf("\n%-40s", "starts refused, by row");
+/* The ways from `first` up to `end`, in the columns of these calls. */
+static void print_ways(const char *title, unsigned of, int first, int end) {
+    printf("\n%-42s", title);
     for (int column = 0; column < COLUMNS; column++)
-        printf(" %12s", NAMES[WITH_STARTS[column]]);
+        if (of >> column & 1)
+            printf(" %12s", NAMES[WITH_STARTS[column]]);
     printf("\n");
-    for (int w = 0; w < WAY_COUNT; w++) {
-        printf("%-40s", WAYS_OF[w].text);
-        for (int column = 0; column < COLUMNS; column++) {
-            printf("   ");
-            print_count(ways[WITH_STARTS[column]][w]);
-        }
+    for (int w = first; w < end; w++) {
+        printf("%-42s", WAYS_OF[w].text);
+        for (int column = 0; column < COLUMNS; column++)
+            if (of >> column & 1) {
+                printf("   ");
+                print_count(ways[WITH_STARTS[column]][w]);
+            }
         printf("\n");
     }
 }
 
 static void print_tables(double seconds) {
     print_rows();
-    print_ways();
+    print_ways("starts refused, by row", WHOLE | QUERIES, 0, WAY_PAIRS);
+    print_ways("pairs, by row (0: accepted)", PAIRS, WAY_PAIRS, WAY_COUNT);
     int frequencies = 0;
     for (int n = 1; n <= FREQUENCY_MAX; n++)
         frequencies += built[n];
     printf("\nlattices of %d of the %d frequencies\n", frequencies, FREQUENCY_MAX);
+    printf("grids of sides from %" PRIu32 " to %" PRIu32 "\n", least_side, greatest_side);
     printf("%" PRIu64 " calls from %" PRIu64 " inputs, %.0f s (%.0f s of processor time)\n",
            all_calls, inputs, seconds, seconds_of(CLOCK_PROCESS_CPUTIME_ID));
     printf("%" PRIu64 " facts held, 0 faults, 0 differences\n", facts);

@@ -13,7 +13,7 @@
     X(minus) X(plus) X(scale) X(divide) X(norm_squared) X(norm) X(normalize) X(direction)         \
     X(projected_barycentric) X(least_weight) X(walk) X(renumber) X(choose_face)                   \
     X(analytic_locate) X(analytic_nearest) X(lattice) X(build_grid) X(grid_nearest)               \
-    X(grid_locate)
+    X(grid_locate) X(walk_mesh) X(build_grid_of) X(nearest_in) X(locate_in)
 
 #define ENTRY(name) ENTRY_##name,
 typedef enum entry { ENTRY_POINTS(ENTRY) ENTRIES } entry;
@@ -22,7 +22,7 @@ typedef enum entry { ENTRY_POINTS(ENTRY) ENTRIES } entry;
 /* Ways in which starts are refused, each with the calls that can meet it: those that read a whole
  * mesh, both queries, or the location alone. A run must meet each way in each of its calls. In a
  * whole mesh the start at 1 can't fall alone: the one before it would not be 0, and that is 17. */
-#define WAYS(X)                                                                                    \
+#define START_WAYS(X)                                                                              \
     X(LENGTH, WHOLE, "3: wrong length")                                                            \
     X(LENGTH_AND_FALL, WHOLE, "3: wrong length, and a start falls")                                \
     X(SPAN_FIRST, WHOLE, "17: the first start isn't 0")                                            \
@@ -51,18 +51,67 @@ typedef enum entry { ENTRY_POINTS(ENTRY) ENTRIES } entry;
     X(VERTEX_NOT_FIRST, LOCATION, "18: at the vertex, behind another fall")                        \
     X(PAST_TRIPLES, LOCATION, "3: past the triples")
 
+/* The same for pairs, and for what else is wrong beside them: in the builder and both queries, in
+ * the builder alone, or in the queries alone. 0: accepted. */
+#define PAIR_WAYS(X)                                                                               \
+    X(FACTOR_NAN, PAIRS, "19: a NaN")                                                              \
+    X(FACTOR_INFINITE, PAIRS, "19: an infinity")                                                   \
+    X(FACTOR_ZERO, PAIRS, "19: a zero")                                                            \
+    X(FACTOR_NEGATIVE, PAIRS, "19: below 0")                                                       \
+    X(FACTOR_BELOW, PAIRS, "19: above 0 and below 0.5")                                            \
+    X(FACTOR_SUBNORMAL, PAIRS, "19: a subnormal")                                                  \
+    X(FACTOR_NEXT_BELOW, PAIRS, "19: the double below 0.5")                                        \
+    X(FACTOR_NEXT_ABOVE, PAIRS, "19: the double above 4.0")                                        \
+    X(FACTOR_ABOVE, PAIRS, "19: above 4.0")                                                        \
+    X(FACTOR_AND_MARGIN, PAIRS, "19: and a margin above 3")                                        \
+    X(MARGIN_NEXT, PAIRS, "20: 4")                                                                 \
+    X(MARGIN_ABOVE, PAIRS, "20: above 4")                                                          \
+    X(POSITION_AND_FACTOR, BUILDER, "5: and a factor that 19 refuses")                             \
+    X(POSITION_AND_MARGIN, BUILDER, "5: and a margin above 3")                                     \
+    X(FACTOR_AND_ROOM, BUILDER, "19: and too little room for triangles")                           \
+    X(MARGIN_AND_ROOM, BUILDER, "20: and too little room for triangles")                           \
+    X(COUNT_AND_FACTOR, QUERIES, "2: positions, and a factor that 19 refuses")                     \
+    X(COUNT_AND_MARGIN, QUERIES, "2: positions, and a margin above 3")                             \
+    X(FACTOR_AND_SIDE, QUERIES, "19: and g outside 2 to 420")                                      \
+    X(MARGIN_AND_SIDE, QUERIES, "20: and g isn't the side")                                        \
+    X(PAIR_AND_LENGTH, QUERIES, "19, 20: and a wrong length of starts")                            \
+    X(PAIR_AND_DIRECTION, QUERIES, "19, 20: and a direction that 9 refuses")                       \
+    X(SIDE, QUERIES, "2: g isn't the side")                                                        \
+    X(SIDE_OF_USUAL, QUERIES, "2: g is the side of 1.2 alone")                                     \
+    X(SIDE_BUT_LENGTH, QUERIES, "3: factor and g changed together")                                \
+    X(LEAST, PAIRS, "0: factor 0.5")                                                               \
+    X(LEAST_NEXT, PAIRS, "0: the double above 0.5")                                                \
+    X(GREATEST_NEXT, PAIRS, "0: the double below 4.0")                                             \
+    X(GREATEST, PAIRS, "0: factor 4.0")                                                            \
+    X(USUAL_NEXT, PAIRS, "0: a double next to 1.2")                                                \
+    X(MARGIN_0, PAIRS, "0: margin 0")                                                              \
+    X(MARGIN_1, PAIRS, "0: margin 1")                                                              \
+    X(MARGIN_2, PAIRS, "0: margin 2")                                                              \
+    X(MARGIN_3, PAIRS, "0: margin 3")                                                              \
+    X(USUAL, PAIRS, "0: the usual pair")                                                           \
+    X(FACTOR_CHANGED, QUERIES, "0: another factor than at building")                               \
+    X(MARGIN_CHANGED, QUERIES, "0: another margin than at building")
+
+#define WAYS(X) START_WAYS(X) PAIR_WAYS(X)
+
 #define WAY(name, calls, text) WAY_##name,
 typedef enum way { WAYS(WAY) WAY_COUNT } way;
 #undef WAY
 
+/* The first way of the pairs. */
+enum { WAY_PAIRS = WAY_FACTOR_NAN };
+
 /* The call was answered by this row; 0: accepted. */
 void count(entry of, uint32_t row);
 
-/* The call was refused in this way; an answer may have several. */
+/* The call was answered in this way; an answer may have several. */
 void count_way(entry of, way met);
 
 /* The lattice of this frequency, from 1 to 80, was built. */
 void count_lattice(uint32_t frequency);
+
+/* A grid of this side was built. */
+void count_side(uint32_t side);
 
 /* Ends the run unless the fact holds. */
 void hold(entry of, bool fact, const char *what);

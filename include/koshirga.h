@@ -1,6 +1,7 @@
 /* Koshirga: the calls of the archive libc_api.a, which `rt staticlib c_api` makes. A whole program
  * that uses them is examples/balloon.c, and examples/exporter.c has a mesh that is refused;
- * docs/DATASHEET.md says what every call does, step by step.
+ * docs/DATASHEET.md says what every call does, step by step. Four calls at the end take mesh and
+ * grid as structs; they are compiled with the caller's code and call the archive's.
  *
  * Every function returns for every argument and keeps no state. All floating-point data is
  * binary64. Each operation is rounded once, by the clauses of IEEE 754-2019 that the function's
@@ -20,10 +21,12 @@
  *     (its master faces) cut into n^2 triangles and put on the unit sphere.
  *   Id table: the ids of a lattice's points face by face, (n + 1)(n + 2)/2 slots each. The point
  *     with the weights a, b and n - a - b on the face's corners has slot a(n + 1) - a(a - 1)/2 + b.
- *   Grid: the six faces of a cube, each cut into g by g cells; g is its side. Cell c has the ids
- *     cell_ids[cell_starts[c]] up to cell_ids[cell_starts[c + 1]]. The triangles at vertex v are
- *     the triples from number triangle_starts[v] up to triangle_starts[v + 1]; triple t is the
- *     ascending ids triples[3t], triples[3t + 1] and triples[3t + 2]. Positions are lent beside it.
+ *   Grid: the six faces of a cube, each cut into g by g cells; g is its side. It keeps the pair it
+ *     was built with: factor, for the side, and margin, for the cells around a vertex. Cell c has
+ *     the ids cell_ids[cell_starts[c]] up to cell_ids[cell_starts[c + 1]]. The triangles at vertex
+ *     v are the triples from number triangle_starts[v] up to triangle_starts[v + 1]; triple t is
+ *     the ascending ids triples[3t], triples[3t + 1] and triples[3t + 2]. Positions are lent beside
+ *     it.
  *
  * Target. x86-64 Linux: an ELF object, the System V calling convention, instructions of the first
  * x86-64 processors (SSE2) alone. The code is position independent: it links with -pie, with
@@ -41,7 +44,7 @@
 #include <stdint.h>
 
 #define KOSHIRGA_VERSION_MAJOR 0
-#define KOSHIRGA_VERSION_MINOR 2
+#define KOSHIRGA_VERSION_MINOR 3
 #define KOSHIRGA_VERSION_PATCH 0
 
 #ifdef __cplusplus
@@ -62,15 +65,17 @@ extern "C" {
  *
  * The order for a mesh is 2, 3, 17, 18, 3, 4. Row 3 stands there twice: a wrong length comes before
  * 17 and 18, which read the whole list, and a neighbour list over 32 behind them, as it has a
- * length only where no start falls. A query tests both start lists for their lengths (3), and then
- * only the part that it reads: whether it falls (18), whether it runs past its ids or triples (3).
- * Its index is 1 more than the cell or the vertex of that part, whatever falls before. No query
- * returns 17. */
+ * length only where no start falls. A query begins with 2, 19, 20, 2: row 2 for count and
+ * positions, then the grid's pair, and row 2 once more for the side. It tests both start lists for
+ * their lengths (3), and then only the part that it reads: whether it falls (18), whether it runs
+ * past its ids or triples (3). Its index is 1 more than the cell or the vertex of that part,
+ * whatever falls before. No query returns 17. */
 enum koshirga_refusal {
     KOSHIRGA_ACCEPTED = 0,
     /* The frequency is below 1 or above 80. */
     KOSHIRGA_FREQUENCY = 1,
-    /* No vertex, over 65536, positions not three a vertex; or a side that isn't the count's. */
+    /* No vertex, over 65536, positions not three a vertex; or, in a query, a side that isn't that
+     * of count and factor. */
     KOSHIRGA_COUNT = 2,
     /* A start list has a wrong length; or a neighbour list is over 32; or, in a query, the part
      * that is read runs past cell_ids or triples. */
@@ -100,7 +105,11 @@ enum koshirga_refusal {
     /* A start is below the one before it: starts[index] < starts[index - 1], so that the neighbours
      * of vertex index - 1 would end before they begin. In a query likewise cell_starts, or
      * triangle_starts. */
-    KOSHIRGA_STARTS_FALL = 18
+    KOSHIRGA_STARTS_FALL = 18,
+    /* A grid's factor isn't finite, or is below 0.5 or above 4.0. */
+    KOSHIRGA_FACTOR = 19,
+    /* A grid's margin is above 3. */
+    KOSHIRGA_MARGIN = 20
 };
 
 /* ---- binary64 */
@@ -284,29 +293,39 @@ typedef struct koshirga_build_answer {
     size_t index; /* that of row 18 */
 } koshirga_build_answer;
 
-/* Writes the cube grid of a mesh. Its side g is the greater of 2 and
- * koshirga_ceil(koshirga_sqrt(count / 6.0) * 1.2): division, root and product (IEEE 754-2019, 5.4.1
- * and 4.3.1), ceiling (5.9). Places that are needed:
+/* The usual pair of a grid. */
+#define KOSHIRGA_USUAL_FACTOR 1.2
+#define KOSHIRGA_USUAL_MARGIN 1
+
+/* Writes the cube grid of a mesh with a factor from 0.5 to 4.0 and a margin from 0 to 3, ends
+ * accepted. Its side g is the greater of 2 and koshirga_ceil(koshirga_sqrt(count / 6.0) * factor):
+ * division, root and product (IEEE 754-2019, 5.4.1 and 4.3.1), ceiling (5.9); from 2 to 420, as is
+ * proved. A vertex is placed on each cube face that it is in front of, in the cells whose row and
+ * column are at most margin from its own: with margin 0 in its own cell alone, and in none where
+ * these lie outside the face. As a rule a greater factor leaves fewer candidates to compare in a
+ * cell and more cells empty (row 11), and a greater margin does the reverse. Places needed:
  *   cell_starts      6g^2 + 1
- *   cell_ids         at most 27 a vertex: nine cells on each of at most three cube faces, as of two
- *                    opposite faces a vertex is placed on one at most
+ *   cell_ids         at most 3(2*margin + 1)^2 a vertex, as is proved: (2*margin + 1)^2 cells on
+ *                    each of at most three cube faces, as of two opposite faces a vertex is placed
+ *                    on one at most
  *   triangle_starts  one a vertex and one more
  *   triples          three ids for each triple, and each triangle is a triple at each of its three
  *                    vertices: 180n^2 for a lattice. For any mesh at most 9L(L - 1)/2 for each
  *                    neighbour list of L entries, repeats among them or not, as a triangle is two
  *                    places of its least vertex's list: at most 4464 a vertex, as L is at most 32.
- * The bounds 27 and 4464 come from counting and are no theorems of the proofs, nor is 180n^2, which
- * was seen for all 80 frequencies; where room is short, row 8 refuses. Surplus is untouched; the
- * last start of either list says how many ids or triples there are, and queries take the slices cut
- * to these lengths. Vertices are placed by division, fused multiply-add and product (IEEE 754-2019,
- * 5.4.1 and 4.3.1) and conversion (5.8). Rows 2, 3, 17, 18, 3, 4, 5, 8 change nothing. */
+ * The bound 4464 comes from counting and is no theorem of the proofs, nor is 180n^2, which was seen
+ * for all 80 frequencies; where room is short, row 8 refuses. Surplus is untouched; the last start
+ * of either list says how many ids or triples there are, and queries take the slices cut to these
+ * lengths. Vertices are placed by division, fused multiply-add and product (IEEE 754-2019, 5.4.1
+ * and 4.3.1) and conversion (5.8). Rows 2, 3, 17, 18, 3, 4, 5, 19, 20, 8 change nothing. */
 koshirga_build_answer koshirga_build_grid(const double *positions, size_t positions_length,
                                           const uint32_t *starts, size_t starts_length,
                                           const uint16_t *entries, size_t entries_length,
                                           uint32_t *cell_starts, size_t cell_starts_length,
                                           uint16_t *cell_ids, size_t cell_ids_length,
                                           uint32_t *triangle_starts, size_t triangle_starts_length,
-                                          uint16_t *triples, size_t triples_length);
+                                          uint16_t *triples, size_t triples_length,
+                                          double factor, uint32_t margin);
 
 /* ---- grid queries */
 
@@ -326,9 +345,15 @@ typedef struct koshirga_located_answer {
  * 754-2019, 5.10), and how many candidates were compared. It is the nearest of the cell and not
  * always of the mesh. The direction is normalised first; that and the distances are rounded as the
  * vector calls round, and the cell is found by division, fused multiply-add and product (IEEE
- * 754-2019, 5.4.1 and 4.3.1) and conversion (5.8). Rows 2, 3, 9, then in the cell 18, 3, 11, 4. */
+ * 754-2019, 5.4.1 and 4.3.1) and conversion (5.8).
+ *
+ * factor and margin are the pair that the grid was built with, side is the builder's answer. Only
+ * the pair's ranges are tested, and whether count and factor have this side: with another pair
+ * whose side is the same, the answer is that of the cells as they are stored. Rows 2 (count and
+ * positions), 19, 20, 2 (side), 3, 9, then in the cell 18, 3, 11, 4. */
 koshirga_nearest_answer koshirga_grid_nearest(const double *positions, size_t positions_length,
-                                              uint32_t side, const uint32_t *cell_starts,
+                                              double factor, uint32_t margin, uint32_t side,
+                                              const uint32_t *cell_starts,
                                               size_t cell_starts_length, const uint16_t *cell_ids,
                                               size_t cell_ids_length,
                                               const uint32_t *triangle_starts,
@@ -341,13 +366,116 @@ koshirga_nearest_answer koshirga_grid_nearest(const double *positions, size_t po
  * Which start list falls, 18 doesn't say: cell_starts where koshirga_grid_nearest is refused too,
  * and triangle_starts where it isn't. */
 koshirga_located_answer koshirga_grid_locate(const double *positions, size_t positions_length,
-                                             uint32_t side, const uint32_t *cell_starts,
+                                             double factor, uint32_t margin, uint32_t side,
+                                             const uint32_t *cell_starts,
                                              size_t cell_starts_length, const uint16_t *cell_ids,
                                              size_t cell_ids_length,
                                              const uint32_t *triangle_starts,
                                              size_t triangle_starts_length,
                                              const uint16_t *triples, size_t triples_length,
                                              koshirga_vector3 direction);
+
+/* ---- mesh and grid as structs */
+
+/* A mesh that is read. */
+typedef struct koshirga_mesh {
+    const double *positions;
+    size_t positions_length;
+    const uint32_t *starts;
+    size_t starts_length;
+    const uint16_t *entries;
+    size_t entries_length;
+} koshirga_mesh;
+
+/* A grid that is read: its positions, the pair that it was built with, its side and its slices, cut
+ * to their lengths. */
+typedef struct koshirga_grid {
+    const double *positions;
+    size_t positions_length;
+    double factor;
+    uint32_t margin, side;
+    const uint32_t *cell_starts;
+    size_t cell_starts_length;
+    const uint16_t *cell_ids;
+    size_t cell_ids_length;
+    const uint32_t *triangle_starts;
+    size_t triangle_starts_length;
+    const uint16_t *triples;
+    size_t triples_length;
+} koshirga_grid;
+
+/* The slices lent to the builder, with their whole lengths. */
+typedef struct koshirga_grid_slices {
+    uint32_t *cell_starts;
+    size_t cell_starts_length;
+    uint16_t *cell_ids;
+    size_t cell_ids_length;
+    uint32_t *triangle_starts;
+    size_t triangle_starts_length;
+    uint16_t *triples;
+    size_t triples_length;
+} koshirga_grid_slices;
+
+/* koshirga_walk of a mesh. */
+static inline koshirga_walk_answer koshirga_walk_mesh(koshirga_mesh mesh, uint32_t *order,
+                                                      size_t order_length, uint32_t *queue,
+                                                      size_t queue_length) {
+    return koshirga_walk(mesh.positions, mesh.positions_length, mesh.starts, mesh.starts_length,
+                         mesh.entries, mesh.entries_length, order, order_length, queue,
+                         queue_length);
+}
+
+/* koshirga_build_grid of a mesh. Where it is accepted, *grid is the grid that was built, ready for
+ * queries: it points to the mesh's positions and to the lent slices and copies none of them. Where
+ * it is refused, *grid is as it was. */
+static inline koshirga_build_answer koshirga_build_grid_of(koshirga_mesh mesh, double factor,
+                                                           uint32_t margin,
+                                                           koshirga_grid_slices lent,
+                                                           koshirga_grid *grid) {
+    const koshirga_build_answer built = koshirga_build_grid(
+        mesh.positions, mesh.positions_length, mesh.starts, mesh.starts_length, mesh.entries,
+        mesh.entries_length, lent.cell_starts, lent.cell_starts_length, lent.cell_ids,
+        lent.cell_ids_length, lent.triangle_starts, lent.triangle_starts_length, lent.triples,
+        lent.triples_length, factor, margin);
+    if (built.refusal == KOSHIRGA_ACCEPTED) {
+        const size_t side = built.side, cells = 6 * side * side;
+        const size_t vertices = mesh.positions_length / 3;
+        const size_t triple_count = lent.triangle_starts[vertices];
+        grid->positions = mesh.positions;
+        grid->positions_length = mesh.positions_length;
+        grid->factor = factor;
+        grid->margin = margin;
+        grid->side = built.side;
+        grid->cell_starts = lent.cell_starts;
+        grid->cell_starts_length = cells + 1;
+        grid->cell_ids = lent.cell_ids;
+        grid->cell_ids_length = lent.cell_starts[cells];
+        grid->triangle_starts = lent.triangle_starts;
+        grid->triangle_starts_length = vertices + 1;
+        grid->triples = lent.triples;
+        grid->triples_length = 3 * triple_count;
+    }
+    return built;
+}
+
+/* koshirga_grid_nearest of a grid; its triples are not read. */
+static inline koshirga_nearest_answer koshirga_nearest_in(const koshirga_grid *grid,
+                                                          koshirga_vector3 direction) {
+    return koshirga_grid_nearest(grid->positions, grid->positions_length, grid->factor,
+                                 grid->margin, grid->side, grid->cell_starts,
+                                 grid->cell_starts_length, grid->cell_ids, grid->cell_ids_length,
+                                 grid->triangle_starts, grid->triangle_starts_length, direction);
+}
+
+/* koshirga_grid_locate of a grid. */
+static inline koshirga_located_answer koshirga_locate_in(const koshirga_grid *grid,
+                                                         koshirga_vector3 direction) {
+    return koshirga_grid_locate(grid->positions, grid->positions_length, grid->factor, grid->margin,
+                                grid->side, grid->cell_starts, grid->cell_starts_length,
+                                grid->cell_ids, grid->cell_ids_length, grid->triangle_starts,
+                                grid->triangle_starts_length, grid->triples, grid->triples_length,
+                                direction);
+}
 
 #ifdef __cplusplus
 }

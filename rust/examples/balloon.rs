@@ -16,7 +16,9 @@ const ON_AXIS: f64 = 90.0;
 const LEAST_PRESSURE: f64 = 0.01;
 
 fn main() -> ExitCode {
-    let arguments = arguments::read("balloon", 20);
+    let arguments = arguments::read("balloon", "[X Y Z [FREQUENCY]]", |given| {
+        arguments::parse(given, 20)
+    });
     match balloon(&arguments) {
         Ok(()) => ExitCode::SUCCESS,
         Err(refusal) => {

@@ -2,7 +2,7 @@
 //! Each returns for every argument, so each is `safe` to call but those that take slices: pointer
 //! and length have to be a slice's. These are called below, by functions that take the slices.
 
-use crate::{Grid, GridMut, Mesh, MeshMut, Scratch, Vector3, Weights};
+use crate::{Grid, GridMut, Mesh, MeshMut, Scratch, Settings, Vector3, Weights};
 
 #[repr(C)]
 pub struct BuildAnswer {
@@ -151,6 +151,8 @@ unsafe extern "C" {
         triangle_starts_length: usize,
         triples: *mut u16,
         triples_length: usize,
+        factor: f64,
+        margin: u32,
     ) -> BuildAnswer;
 
     pub safe fn koshirga_choose_face(
@@ -177,6 +179,8 @@ unsafe extern "C" {
     fn koshirga_grid_nearest(
         positions: *const f64,
         positions_length: usize,
+        factor: f64,
+        margin: u32,
         side: u32,
         cell_starts: *const u32,
         cell_starts_length: usize,
@@ -189,6 +193,8 @@ unsafe extern "C" {
     fn koshirga_grid_locate(
         positions: *const f64,
         positions_length: usize,
+        factor: f64,
+        margin: u32,
         side: u32,
         cell_starts: *const u32,
         cell_starts_length: usize,
@@ -294,7 +300,7 @@ pub fn lattice(frequency: u32, mesh: MeshMut, ids: &mut [u16]) -> u32 {
     }
 }
 
-pub fn build_grid(mesh: Mesh, grid: GridMut) -> BuildAnswer {
+pub fn build_grid(mesh: Mesh, settings: Settings, grid: GridMut) -> BuildAnswer {
     let Mesh {
         positions,
         starts,
@@ -323,6 +329,8 @@ pub fn build_grid(mesh: Mesh, grid: GridMut) -> BuildAnswer {
             triangle_starts.len(),
             triples.as_mut_ptr(),
             triples.len(),
+            settings.factor,
+            settings.margin,
         )
     }
 }
@@ -343,6 +351,8 @@ pub fn grid_nearest(grid: Grid, direction: Vector3) -> NearestAnswer {
         koshirga_grid_nearest(
             grid.positions.as_ptr(),
             grid.positions.len(),
+            grid.settings.factor,
+            grid.settings.margin,
             grid.side,
             grid.cell_starts.as_ptr(),
             grid.cell_starts.len(),
@@ -361,6 +371,8 @@ pub fn grid_locate(grid: Grid, direction: Vector3) -> LocatedAnswer {
         koshirga_grid_locate(
             grid.positions.as_ptr(),
             grid.positions.len(),
+            grid.settings.factor,
+            grid.settings.margin,
             grid.side,
             grid.cell_starts.as_ptr(),
             grid.cell_starts.len(),
@@ -394,19 +406,74 @@ mod tests {
             .collect()
     }
 
-    /// The header declares each function in a line that begins with its type, and names others
-    /// only in comments.
+    /// The header declares each export in a line that begins with its type. Its inline functions
+    /// begin with `static`, and others are named only in comments and in these functions' bodies.
     #[test]
     fn every_export_is_declared_here() {
         let header = include_str!("../../include/koshirga.h");
         let declared: BTreeSet<&str> = header
             .lines()
             .filter(|line| !line.starts_with([' ', '/', '#', '}']))
+            .filter(|line| !line.starts_with("static inline "))
             .flat_map(|line| functions(line, " "))
             .collect();
         let source = include_str!("ffi.rs");
         assert_eq!(declared, functions(source, "fn "));
         assert!(declared.contains("koshirga_grid_locate"), "{declared:?}");
+    }
+
+    /// The arguments between the brackets that follow `head`, each on one line.
+    fn arguments<'a>(text: &'a str, head: &str) -> impl Iterator<Item = String> + 'a {
+        let (_, rest) = text.split_once(head).unwrap();
+        let (arguments, _) = rest.split_once(')').unwrap();
+        let each = arguments.trim().trim_end_matches(',').split(',');
+        each.map(|argument| argument.split_whitespace().collect::<Vec<_>>().join(" "))
+    }
+
+    /// An argument of the header as it is written here.
+    fn in_rust(argument: &str) -> String {
+        let (kind, name) = argument.rsplit_once(' ').unwrap();
+        let kind_alone = kind.trim_start_matches("const ");
+        let ours = match kind_alone {
+            "bool" => "bool",
+            "double" => "f64",
+            "koshirga_vector3" => "Vector3",
+            "koshirga_weights" => "Weights",
+            "size_t" => "usize",
+            "uint8_t" => "u8",
+            "uint16_t" => "u16",
+            "uint32_t" => "u32",
+            "uint64_t" => "u64",
+            other => panic!("{other}"),
+        };
+        match name.strip_prefix('*') {
+            None => format!("{name}: {ours}"),
+            Some(name) if kind == kind_alone => format!("{name}: *mut {ours}"),
+            Some(name) => format!("{name}: *const {ours}"),
+        }
+    }
+
+    /// Names alone are known to the linker: that arguments are the same, and in the same order, is
+    /// seen here.
+    #[test]
+    fn exports_have_the_arguments_of_the_header() {
+        let header = include_str!("../../include/koshirga.h");
+        let source = include_str!("ffi.rs");
+        for name in functions(source, "fn ") {
+            let declaration = header
+                .match_indices(name)
+                .map(|(at, _)| at)
+                .find(|&at| {
+                    let (before, rest) = header.split_at(at + name.len());
+                    let line = before.rsplit('\n').next().unwrap();
+                    rest.starts_with('(') && line.starts_with(|c: char| c.is_ascii_lowercase())
+                })
+                .unwrap();
+            let declared = arguments(&header[declaration..], "(");
+            let ours = arguments(source, &format!("fn {name}("));
+            let declared: Vec<String> = declared.map(|argument| in_rust(&argument)).collect();
+            assert_eq!(declared, ours.collect::<Vec<_>>(), "{name}");
+        }
     }
 
     /// The size of the header's `koshirga_..._answer`, and the place of its field `index`, as the
@@ -455,21 +522,32 @@ mod tests {
         assert_eq!(header_layout("analytic"), (analytic, None));
     }
 
+    /// What the header defines as `KOSHIRGA_...`, as it is written there.
+    fn header_values(name: &str) -> Vec<&'static str> {
+        let define = format!("#define KOSHIRGA_{name} ");
+        include_str!("../../include/koshirga.h")
+            .lines()
+            .filter_map(|line| line.strip_prefix(define.as_str()))
+            .collect()
+    }
+
     /// The header's version is this crate's.
     #[test]
     fn versions_are_equal() {
-        let header = include_str!("../../include/koshirga.h");
         for (part, ours) in [
             ("MAJOR", env!("CARGO_PKG_VERSION_MAJOR")),
             ("MINOR", env!("CARGO_PKG_VERSION_MINOR")),
             ("PATCH", env!("CARGO_PKG_VERSION_PATCH")),
         ] {
-            let define = format!("#define KOSHIRGA_VERSION_{part} ");
-            let values: Vec<&str> = header
-                .lines()
-                .filter_map(|line| line.strip_prefix(define.as_str()))
-                .collect();
-            assert_eq!(values, [ours], "{part}");
+            assert_eq!(header_values(&format!("VERSION_{part}")), [ours], "{part}");
         }
+    }
+
+    /// The header's usual pair is the default here.
+    #[test]
+    fn usual_pair_is_the_headers() {
+        let Settings { factor, margin } = Settings::default();
+        assert_eq!(header_values("USUAL_FACTOR"), [factor.to_string()]);
+        assert_eq!(header_values("USUAL_MARGIN"), [margin.to_string()]);
     }
 }

@@ -2,11 +2,38 @@
 
 use crate::{ceil, ffi, sqrt, Mesh, Refusal, Vector3, Weights};
 
+/// The pair that a grid is built with. The default is the usual one, 1.2 and 1.
+///
+/// As a rule a greater factor leaves fewer candidates to compare in a cell, and more cells empty; a
+/// greater margin does the reverse.
+#[derive(Clone, Copy, Debug, PartialEq)]
+pub struct Settings {
+    /// From 0.5 to 4.0, ends included; row 19 refuses every other. The side g is the greater of 2
+    /// and the ceiling of √(count/6)·factor: quotient, root and product, each rounded once, to
+    /// nearest, ties to even (IEEE 754-2019, 5.4.1 and 4.3.1), and the exact ceiling (5.9).
+    pub factor: f64,
+    /// From 0 to 3; row 20 refuses more. On each cube face that it is in front of, a vertex is
+    /// placed in the cells whose row and column are at most so far from its own.
+    pub margin: u32,
+}
+
+impl Default for Settings {
+    fn default() -> Self {
+        Settings {
+            factor: 1.2,
+            margin: 1,
+        }
+    }
+}
+
 /// A grid beside the positions that it was built of. A query takes the slices cut to their lengths.
 #[derive(Clone, Copy, Debug)]
 pub struct Grid<'a> {
     /// Three coordinates a vertex.
     pub positions: &'a [f64],
+    /// The pair that it was built with. A query tests the ranges of both, and the side by the
+    /// factor: with another pair whose side is the same it answers from the cells as they are.
+    pub settings: Settings,
     /// The cells along an edge of a cube face: g.
     pub side: u32,
     /// Where each cell's ids start: 6g² + 1. Cell face·g·g + ci·g + cj.
@@ -46,7 +73,8 @@ pub struct Located {
 pub struct GridMut<'a> {
     /// 6g² + 1 places.
     pub cell_starts: &'a mut [u32],
-    /// At most 27 places a vertex: nine cells on each of at most three cube faces.
+    /// At most 3(2·margin + 1)² places a vertex: (2·margin + 1)² cells on each of at most three cube
+    /// faces.
     pub cell_ids: &'a mut [u16],
     /// A place a vertex and one more.
     pub triangle_starts: &'a mut [u32],
@@ -59,12 +87,13 @@ pub struct GridMut<'a> {
 /// Writes the grid of a mesh and gives its side g: 6g² + 1 cell starts, the cells' ids, a triangle
 /// start a vertex and one more, and the triples. Before a query the slices are cut to these
 /// lengths: as many cell ids as the last cell start says, and three ids for each triple that the
-/// last triangle start counts. Surplus places are untouched. Rows 2, 3, 17, 18, 3, 4, 5 and 8
-/// change nothing.
+/// last triangle start counts. Surplus places are untouched. Rows 2, 3, 17, 18, 3, 4, 5, 19, 20 and
+/// 8 change nothing.
 ///
-/// [`FaceGrid::new`](crate::FaceGrid::new) brings the slices itself, and cuts them.
-pub fn build_grid(mesh: Mesh, grid: GridMut) -> Result<u32, Refusal> {
-    let answer = ffi::build_grid(mesh, grid);
+/// [`FaceGrid::with_settings`](crate::FaceGrid::with_settings) brings the slices itself, and cuts
+/// them.
+pub fn build_grid(mesh: Mesh, settings: Settings, grid: GridMut) -> Result<u32, Refusal> {
+    let answer = ffi::build_grid(mesh, settings, grid);
     Refusal::check_at(answer.refusal, answer.index)?;
     Ok(answer.side)
 }
@@ -72,8 +101,9 @@ pub fn build_grid(mesh: Mesh, grid: GridMut) -> Result<u32, Refusal> {
 impl Grid<'_> {
     /// The first candidate of the direction's cell with the least squared distance in total order
     /// (IEEE 754-2019, 5.10). The direction is normalised first; that and the distances are rounded
-    /// as [`Vector3`]'s operations are (5.4.1 and 4.3.1). The triples are not read. Rows 2, 3, 9,
-    /// then of the cell 18, 3, 11 and 4 refuse, in this order.
+    /// as [`Vector3`]'s operations are (5.4.1 and 4.3.1). The triples are not read. Rows 2 (count
+    /// and positions), 19, 20, 2 (side), 3, 9, then of the cell 18, 3, 11 and 4 refuse, in this
+    /// order.
     pub fn find_nearest_vertex(&self, direction: Vector3) -> Result<Nearest, Refusal> {
         let answer = ffi::grid_nearest(*self, direction);
         Refusal::check_at(answer.refusal, answer.index)?;
@@ -103,8 +133,12 @@ impl Grid<'_> {
 const GREATEST_COUNT: usize = 65_536;
 /// The greatest length of a neighbour list that row 3 accepts.
 const GREATEST_LIST: usize = 32;
-/// A vertex is placed in 3 by 3 cells on each of at most three cube faces.
-const CELLS_OF_A_VERTEX: usize = 27;
+/// The greatest factor that row 19 accepts.
+const GREATEST_FACTOR: f64 = 4.0;
+/// The greatest margin that row 20 accepts.
+const GREATEST_MARGIN: u32 = 3;
+/// Of two opposite cube faces a vertex is placed on one at most.
+const FACES_OF_A_VERTEX: usize = 3;
 
 /// A grid that holds its lists itself, beside the positions of the mesh that it was built of.
 ///
@@ -122,6 +156,7 @@ const CELLS_OF_A_VERTEX: usize = 27;
 #[derive(Clone, Debug)]
 pub struct FaceGrid<'a> {
     positions: &'a [f64],
+    settings: Settings,
     side: u32,
     cell_starts: Vec<u32>,
     cell_ids: Vec<u16>,
@@ -130,11 +165,41 @@ pub struct FaceGrid<'a> {
 }
 
 impl<'a> FaceGrid<'a> {
-    /// The grid of a mesh. Rows 2, 3, 17, 18, 3, 4 and 5 refuse, in this order.
+    /// The grid of a mesh with the usual pair. Rows 2, 3, 17, 18, 3, 4 and 5 refuse, in this order.
     pub fn new(mesh: Mesh<'a>) -> Result<Self, Refusal> {
-        // What is refused needs no more room than what is accepted.
+        FaceGrid::with_settings(mesh, Settings::default())
+    }
+
+    /// The grid of a mesh with a chosen pair. Rows 2, 3, 17, 18, 3, 4, 5, 19 and 20 refuse, in this
+    /// order.
+    ///
+    /// ```
+    /// use koshirga::{FaceGrid, LatticeGeometry, Settings, Vector3};
+    ///
+    /// let lattice = LatticeGeometry::new(20)?;
+    /// let mesh = lattice.mesh.as_mesh();
+    /// let direction = Vector3::new(0.3, -0.5, 0.8);
+    /// let usual = FaceGrid::new(mesh)?.find_nearest_vertex(direction)?;
+    ///
+    /// // Smaller cells, and more of them around a vertex: the same vertex, of fewer candidates.
+    /// let fine = Settings { factor: 4.0, margin: 3 };
+    /// let nearest = FaceGrid::with_settings(mesh, fine)?.find_nearest_vertex(direction)?;
+    /// assert_eq!(nearest.id, usual.id);
+    /// assert!(nearest.candidates < usual.candidates);
+    ///
+    /// // So small cells without the ones around them leave gaps.
+    /// let gaps = Settings { margin: 0, ..fine };
+    /// let refusal = FaceGrid::with_settings(mesh, gaps)?.locate(direction).unwrap_err();
+    /// assert_eq!(refusal.number(), 11);
+    /// # Ok::<(), koshirga::Refusal>(())
+    /// ```
+    pub fn with_settings(mesh: Mesh<'a>, settings: Settings) -> Result<Self, Refusal> {
+        // What is refused needs no more room than what is accepted: 4.0 stands for a NaN, too.
         let count = (mesh.positions.len() / 3).min(GREATEST_COUNT);
-        let side = ceil(sqrt(count as f64 / 6.0) * 1.2).max(2.0) as usize;
+        let factor = settings.factor.min(GREATEST_FACTOR);
+        let margin = settings.margin.min(GREATEST_MARGIN) as usize;
+        let side = ceil(sqrt(count as f64 / 6.0) * factor).max(2.0) as usize;
+        let across = 2 * margin + 1;
         // A triangle is found at its least vertex, as a pair of places of that one's list.
         let lists = mesh.starts.windows(2).take(count);
         let pairs = lists.map(|ends| {
@@ -144,9 +209,10 @@ impl<'a> FaceGrid<'a> {
         let triangles: usize = pairs.sum();
         let mut grid = FaceGrid {
             positions: mesh.positions,
+            settings,
             side: 0,
             cell_starts: vec![0; 6 * side * side + 1],
-            cell_ids: vec![0; CELLS_OF_A_VERTEX * count],
+            cell_ids: vec![0; FACES_OF_A_VERTEX * across * across * count],
             triangle_starts: vec![0; count + 1],
             triples: vec![0; 9 * triangles],
         };
@@ -156,7 +222,7 @@ impl<'a> FaceGrid<'a> {
             triangle_starts: &mut grid.triangle_starts,
             triples: &mut grid.triples,
         };
-        grid.side = build_grid(mesh, lent)?;
+        grid.side = build_grid(mesh, settings, lent)?;
         cut(&mut grid.cell_ids, &grid.cell_starts, 1);
         cut(&mut grid.triples, &grid.triangle_starts, 3);
         Ok(grid)
@@ -166,6 +232,7 @@ impl<'a> FaceGrid<'a> {
     pub fn as_grid(&self) -> Grid<'_> {
         Grid {
             positions: self.positions,
+            settings: self.settings,
             side: self.side,
             cell_starts: &self.cell_starts,
             cell_ids: &self.cell_ids,
@@ -216,6 +283,7 @@ mod tests {
     fn grid(cell_starts: &[u32]) -> Grid<'_> {
         Grid {
             positions: &POSITIONS,
+            settings: Settings::default(),
             side: 2,
             cell_starts,
             cell_ids: &IDS,
@@ -291,19 +359,31 @@ mod tests {
     fn grids_with_own_lists() {
         for frequency in [1, 2, 3, 20, 80] {
             let lattice = LatticeGeometry::new(frequency).unwrap();
-            let grid = FaceGrid::new(lattice.mesh.as_mesh()).unwrap();
-            let lent = grid.as_grid();
-            let n = frequency as usize;
-            assert_eq!(lent.triples.len(), 3 * 60 * n * n);
-            let cells = 6 * lent.side as usize * lent.side as usize;
-            assert_eq!(lent.cell_starts.len(), cells + 1);
-            assert_eq!(lent.cell_starts[cells] as usize, lent.cell_ids.len());
-            let vertex = lattice.mesh.position(5);
-            let nearest = grid.find_nearest_vertex(vertex).unwrap();
-            assert_eq!(nearest.id, 5);
-            assert!(nearest.distance < 1e-30, "{nearest:?}");
-            assert!(grid.locate(vertex).unwrap().triple.contains(&5));
+            let usual = FaceGrid::new(lattice.mesh.as_mesh()).unwrap();
+            assert_eq!(usual.settings, Settings::default());
+            check_room(&lattice, &usual);
+            for factor in [0.5, 1.2, 4.0] {
+                for margin in 0..=3 {
+                    let settings = Settings { factor, margin };
+                    let grid = FaceGrid::with_settings(lattice.mesh.as_mesh(), settings).unwrap();
+                    check_room(&lattice, &grid);
+                }
+            }
         }
+    }
+
+    fn check_room(lattice: &LatticeGeometry, grid: &FaceGrid) {
+        let lent = grid.as_grid();
+        let n = lattice.frequency as usize;
+        assert_eq!(lent.triples.len(), 3 * 60 * n * n);
+        let cells = 6 * lent.side as usize * lent.side as usize;
+        assert_eq!(lent.cell_starts.len(), cells + 1);
+        assert_eq!(lent.cell_starts[cells] as usize, lent.cell_ids.len());
+        let vertex = lattice.mesh.position(5);
+        let nearest = grid.find_nearest_vertex(vertex).unwrap();
+        assert_eq!(nearest.id, 5);
+        assert!(nearest.distance < 1e-30, "{nearest:?}");
+        assert!(grid.locate(vertex).unwrap().triple.contains(&5));
     }
 
     #[test]
@@ -337,5 +417,26 @@ mod tests {
         assert_eq!(refused(&POSITIONS, &[0, 1, 1, 1], &[3]), Some(4));
         assert_eq!(refused(&[0.0; 9], &[0; 4], &[]), Some(5));
         assert_eq!(refused(&POSITIONS, &[0; 4], &[]), None);
+    }
+
+    /// Room is worked out before a pair is refused, and such a pair asks for no more of it.
+    #[test]
+    fn room_of_refused_pairs() {
+        let positions = vec![1.0; 3 * GREATEST_COUNT];
+        let starts = vec![0; GREATEST_COUNT + 1];
+        let mesh = Mesh {
+            positions: &positions,
+            starts: &starts,
+            entries: &[],
+        };
+        let refused = |factor, margin| {
+            let settings = Settings { factor, margin };
+            number(FaceGrid::with_settings(mesh, settings))
+        };
+        for factor in [1e9, f64::MAX, f64::INFINITY, f64::NAN, -1e9] {
+            assert_eq!(refused(factor, 0), Some(19), "{factor}");
+        }
+        assert_eq!(refused(1.2, u32::MAX), Some(20));
+        assert_eq!(refused(4.0, 3), None);
     }
 }

@@ -9,7 +9,7 @@ use std::fmt;
 /// | Row | What was checked | When it refuses |
 /// |---:|---|---|
 /// | 1 | frequency | it is below 1 or above 80 |
-/// | 2 | mesh | there is no vertex or more than 65,536, the positions are not three a vertex, or the grid's side is not that of the count |
+/// | 2 | mesh | there is no vertex or more than 65,536, the positions are not three a vertex, or the grid's side is not that of count and factor |
 /// | 3 | mesh | a start list has a wrong length, a neighbour list is over 32, or the part that a query reads runs past its ids or triples |
 /// | 4 | mesh | an id is not below the vertex count |
 /// | 5 | mesh | a position has a component that is not finite, or a length below 2^-20 or above 2^20 |
@@ -23,6 +23,8 @@ use std::fmt;
 /// | 13 | walk | a vertex is not reached |
 /// | 17 | mesh | the first start is not 0, or the last is not the number of entries |
 /// | 18 | mesh | a start is below the one before it |
+/// | 19 | factor | it is not finite, or below 0.5 or above 4.0 |
+/// | 20 | margin | it is above 3 |
 ///
 /// The order for a mesh is 2, 3, 17, 18, 3, 4. Row 3 stands there twice: a wrong length comes
 /// before 17 and 18, which read the whole list, and a neighbour list over 32 behind them, as it has
@@ -30,7 +32,9 @@ use std::fmt;
 ///
 /// Rows 3, 4 and 18 also refuse a grid's starts and ids in a query, which reads one part of a list;
 /// 17 does not. Rows 5 and 9 test the squared length as it is computed: from 2^-40 to 2^40 is
-/// accepted, ends included.
+/// accepted, ends included. Rows 19 and 20 refuse a grid's [`Settings`](crate::Settings): in the
+/// builder behind the mesh's rows, which 5 ends, and in a query between row 2 for count and
+/// positions and row 2 for the side.
 ///
 /// ```
 /// use koshirga::Vector3;
@@ -102,7 +106,7 @@ impl Refusal {
             2 => (
                 "mesh",
                 "there is no vertex or more than 65,536, the positions are not three a vertex, or \
-                 the grid's side is not that of the count",
+                 the grid's side is not that of count and factor",
             ),
             3 => (
                 "mesh",
@@ -140,6 +144,8 @@ impl Refusal {
                 "the first start is not 0, or the last is not the number of entries",
             ),
             18 => ("mesh", "a start is below the one before it"),
+            19 => ("factor", "it is not finite, or below 0.5 or above 4.0"),
+            20 => ("margin", "it is above 3"),
             _ => ("archive", "it answered with a row that this crate lacks"),
         }
     }
@@ -200,6 +206,11 @@ mod tests {
             "refusal 18 (mesh): a start is below the one before it: the start at index 2 of its \
              list, counted from 0"
         );
+        assert_eq!(
+            text(19, 0),
+            "refusal 19 (factor): it is not finite, or below 0.5 or above 4.0"
+        );
+        assert_eq!(text(20, 0), "refusal 20 (margin): it is above 3");
     }
 
     /// The header's constants, each `KOSHIRGA_NAME = NUMBER` in a line of its own.
@@ -215,10 +226,7 @@ mod tests {
     #[test]
     fn rows_are_those_of_the_header() {
         let rows = header_rows();
-        assert!(
-            rows.iter().copied().eq((0..=13).chain([17, 18])),
-            "{rows:?}"
-        );
+        assert!(rows.iter().copied().eq((0..=13).chain(17..=20)), "{rows:?}");
         let row = |number| Refusal { number, index: 0 }.row();
         let lacking = row(u32::MAX);
         let known: Vec<u32> = (0..=99).filter(|&number| row(number) != lacking).collect();

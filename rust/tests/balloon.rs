@@ -2,7 +2,8 @@
 //! order leaves as it was.
 
 use koshirga::{
-    least_weight, projected_barycentric, FaceGrid, LatticeGeometry, MeshData, Vector3, Walk,
+    least_weight, projected_barycentric, FaceGrid, LatticeGeometry, MeshData, Settings, Vector3,
+    Walk,
 };
 
 const FREQUENCIES: [u32; 4] = [1, 2, 7, 20];
@@ -48,30 +49,51 @@ fn vertices_and_levels_move_together() {
     }
 }
 
+/// The usual pair, and others.
+const PAIRS: [(f64, u32); 5] = [(1.2, 1), (0.5, 0), (0.5, 3), (4.0, 0), (4.0, 3)];
+
 #[test]
 fn queries_after_a_renumbering() {
-    for frequency in FREQUENCIES {
-        let (lattice, walk, mesh, _) = prepared(frequency);
-        let before = FaceGrid::new(lattice.mesh.as_mesh()).unwrap();
-        let after = FaceGrid::new(mesh.as_mesh()).unwrap();
-        for direction in directions() {
-            let nearest = before.find_nearest_vertex(direction).unwrap();
-            let later = after.find_nearest_vertex(direction).unwrap();
-            assert_eq!(later.id, walk.order[nearest.id as usize]);
-            assert_eq!(later.candidates, nearest.candidates);
-            assert_eq!(later.distance.to_bits(), nearest.distance.to_bits());
+    for (factor, margin) in PAIRS {
+        for frequency in FREQUENCIES {
+            compare_queries(frequency, Settings { factor, margin });
+        }
+    }
+}
 
-            // The point of an edge that is closest to a direction belongs to two triangles, and
-            // each order of the ids has its own first one of them. Their least weight is 0.
-            let located = before.locate(direction).unwrap();
-            let later = after.locate(direction).unwrap();
-            if located.least > 0.0 {
-                let mut triple = located.triple.map(|id| walk.order[id as usize]);
-                triple.sort();
-                assert_eq!(later.triple, triple);
-            } else {
-                assert_eq!(later.least, 0.0);
+/// Both grids are built with one pair. The usual one leaves no cell empty here; one that another
+/// leaves so is empty before and after.
+fn compare_queries(frequency: u32, settings: Settings) {
+    let (lattice, walk, mesh, _) = prepared(frequency);
+    let before = FaceGrid::with_settings(lattice.mesh.as_mesh(), settings).unwrap();
+    let after = FaceGrid::with_settings(mesh.as_mesh(), settings).unwrap();
+    for direction in directions() {
+        let nearest = match before.find_nearest_vertex(direction) {
+            Ok(nearest) => nearest,
+            Err(refusal) => {
+                assert_ne!(settings, Settings::default());
+                assert_eq!(refusal.number(), 11);
+                assert_eq!(before.locate(direction), Err(refusal));
+                assert_eq!(after.find_nearest_vertex(direction), Err(refusal));
+                assert_eq!(after.locate(direction), Err(refusal));
+                continue;
             }
+        };
+        let later = after.find_nearest_vertex(direction).unwrap();
+        assert_eq!(later.id, walk.order[nearest.id as usize]);
+        assert_eq!(later.candidates, nearest.candidates);
+        assert_eq!(later.distance.to_bits(), nearest.distance.to_bits());
+
+        // The point of an edge that is closest to a direction belongs to two triangles, and each
+        // order of the ids has its own first one of them. Their least weight is 0.
+        let located = before.locate(direction).unwrap();
+        let later = after.locate(direction).unwrap();
+        if located.least > 0.0 {
+            let mut triple = located.triple.map(|id| walk.order[id as usize]);
+            triple.sort();
+            assert_eq!(later.triple, triple);
+        } else {
+            assert_eq!(later.least, 0.0);
         }
     }
 }

@@ -19,9 +19,10 @@ ghost use Rattle.barycentric.specs.Weights.{leastWeight};
 ghost use Rattle.barycentric.specs.Ericson.{projectedBarycentric};
 ghost use Rattle.analytic.specs.FaceChoice.{chooseFace};
 ghost use Rattle.analytic.specs.Location.{locate, findNearestVertex};
+ghost use Rattle.grid.specs.Settings.{settingsWith};
 ghost use Rattle.grid.specs.Grid.{build};
 ghost use Rattle.grid.specs.Builder.{gridSlices};
-ghost use Rattle.grid_query.specs.Cell.{lentGrid};
+ghost use Rattle.grid.specs.Stored.{lentGrid};
 ghost use Rattle.grid_query.specs.Nearest.{nearestVertex};
 ghost use Rattle.grid_query.specs.Locate as grid_location;
 ghost use Rattle.c_api.specs.Code.{orderingCode, directionCode, signsOf, outsideOf, faceAnswer, analyticAnswer, vertexAnswer, nearestAnswer, locatedAnswer};
@@ -32,6 +33,7 @@ use analytic::Signs;
 use barycentric::Weights;
 use binary64::Ordering;
 use grid::Build;
+use grid::Settings;
 use grid_query::Located;
 use grid_query::Nearest;
 use master_face::Outside;
@@ -424,7 +426,7 @@ pub extern "C" fn koshirga_lattice(
     }
 }
 
-// The side of the grid that was written. After a refusal all slices are as they were.
+// The side of the grid that was written with this factor and margin. After a refusal all slices are as they were.
 #[no_mangle]
 pub extern "C" fn koshirga_build_grid(
     positions: &[f64],
@@ -434,8 +436,10 @@ pub extern "C" fn koshirga_build_grid(
     cell_ids: &mut [u16],
     triangle_starts: &mut [u32],
     triples: &mut [u16],
+    factor: f64,
+    margin: u32,
 ) -> BuildAnswer
-    ensures { λ r. ⌜ buildLeft r (gridSlices (now («cell_starts» .exit)) (now («cell_ids» .exit)) (now («triangle_starts» .exit)) (now (triples .exit))) ≡ buildLeftOf (build (meshOf (now (positions .entry)) (now (starts .entry)) (now (entries .entry))) (gridSlices (now («cell_starts» .entry)) (now («cell_ids» .entry)) (now («triangle_starts» .entry)) (now (triples .entry)))) ⌝ }
+    ensures { λ r. ⌜ buildLeft r (gridSlices (now («cell_starts» .exit)) (now («cell_ids» .exit)) (now («triangle_starts» .exit)) (now (triples .exit))) ≡ buildLeftOf (build (meshOf (now (positions .entry)) (now (starts .entry)) (now (entries .entry))) (settingsWith factor margin) (gridSlices (now («cell_starts» .entry)) (now («cell_ids» .entry)) (now («triangle_starts» .entry)) (now (triples .entry)))) ⌝ }
 {
     let built = grid::build_grid(
         positions,
@@ -445,6 +449,7 @@ pub extern "C" fn koshirga_build_grid(
         cell_ids,
         triangle_starts,
         triples,
+        Settings { factor, margin },
     );
     match built {
         Build::Refused(reason) => BuildAnswer {
@@ -463,16 +468,19 @@ pub extern "C" fn koshirga_build_grid(
 #[no_mangle]
 pub extern "C" fn koshirga_grid_nearest(
     positions: &[f64],
+    factor: f64,
+    margin: u32,
     side: u32,
     cell_starts: &[u32],
     cell_ids: &[u16],
     triangle_starts: &[u32],
     direction: Vector3,
 ) -> NearestAnswer
-    ensures { λ r. ⌜ ((triples : List ℕ) → r ≡ nearestAnswer (nearestVertex (lentGrid side (now («cell_starts» .entry)) (now («cell_ids» .entry)) (now («triangle_starts» .entry)) triples) (now (positions .entry)) direction)) ⌝ }
+    ensures { λ r. ⌜ ((triples : List ℕ) → r ≡ nearestAnswer (nearestVertex (lentGrid (settingsWith factor margin) side (now («cell_starts» .entry)) (now («cell_ids» .entry)) (now («triangle_starts» .entry)) triples) (now (positions .entry)) direction)) ⌝ }
 {
     let nearest = grid_query::find_nearest_vertex(
         positions,
+        Settings { factor, margin },
         side,
         cell_starts,
         cell_ids,
@@ -504,6 +512,8 @@ pub extern "C" fn koshirga_grid_nearest(
 #[no_mangle]
 pub extern "C" fn koshirga_grid_locate(
     positions: &[f64],
+    factor: f64,
+    margin: u32,
     side: u32,
     cell_starts: &[u32],
     cell_ids: &[u16],
@@ -511,10 +521,11 @@ pub extern "C" fn koshirga_grid_locate(
     triples: &[u16],
     direction: Vector3,
 ) -> LocatedAnswer
-    ensures { λ r. ⌜ r ≡ locatedAnswer (grid_location.locate (lentGrid side (now («cell_starts» .entry)) (now («cell_ids» .entry)) (now («triangle_starts» .entry)) (now (triples .entry))) (now (positions .entry)) direction) ⌝ }
+    ensures { λ r. ⌜ r ≡ locatedAnswer (grid_location.locate (lentGrid (settingsWith factor margin) side (now («cell_starts» .entry)) (now («cell_ids» .entry)) (now («triangle_starts» .entry)) (now (triples .entry))) (now (positions .entry)) direction) ⌝ }
 {
     let located = grid_query::locate(
         positions,
+        Settings { factor, margin },
         side,
         cell_starts,
         cell_ids,

@@ -15,6 +15,7 @@ use Rattle.mesh.specs.Mesh.{meshOf}
 use Rattle.icosahedron.specs.Slots.{slotOf}
 use Rattle.lattice.specs.Lattice.{coordinates, latticeList}
 use Rattle.grid.specs.CubeFace.{dominantFace}
+use Rattle.grid.specs.Settings.{usualFactor, usualSettings}
 use Rattle.grid.specs.Cells.{sideOf, cellCount}
 use Rattle.grid.specs.Grid.{Grid, gridOf}
 use Rattle.grid_query.specs.Cell.{candidates}
@@ -46,13 +47,13 @@ pub data Answer : Type 0 where
 abbrev pub filledCells : Grid → List ℕ
 filledCells grid = filterRange (λ cell. ltb 0 (length (candidates grid cell))) (cellCount (grid .side))
 
--- One vertex has no neighbours.
+-- One vertex has no neighbours. 01's cases are at its own pair.
 abbrev pub gridOfOne : Vector3 → Grid
-gridOfOne position = gridOf (meshOf (coordinates position) (0 ∷ 0 ∷ []) [])
+gridOfOne position = gridOf (meshOf (coordinates position) (0 ∷ 0 ∷ []) []) usualSettings
 
 abbrev pub answerTo : Question → Answer
 answerTo (conversionOf x) = integer (toI64 x)
-answerTo (sideFor count) = number (sideOf count)
+answerTo (sideFor count) = number (sideOf usualFactor count)
 answerTo (slotOfPoint n a b) = number (slotOf n a b)
 answerTo (neighboursOf n v) = numbers (latticeList n v)
 answerTo (faceOf direction) = number (dominantFace direction)

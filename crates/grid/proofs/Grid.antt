@@ -12,56 +12,62 @@ use Rattle.refusal.specs.declared.Verdict.the-variants.{Passed}
 use Rattle.refusal.proofs.Rows.{answer-passed}
 use Rattle.mesh.specs.Mesh.{Mesh, count}
 use Rattle.grid.specs.declared.Build.the-variants.{Built}
+use Rattle.grid.specs.declared.Settings.{Settings}
 use Rattle.grid.specs.Cells.{sideOf, cellCount}
 use Rattle.grid.specs.Triangles.{trianglesAt}
 use Rattle.grid.specs.Grid.{GridSlices, BuildOutcome, idsIn, gridOf, buildRows, filled, build, cut}
 use Rattle.grid.proofs.Triangles.{triples-length}
 
 -- ---- the lengths of a grid, and where its starts end
-module _ (m : Mesh) where
-  pub cell-starts-length : length (gridOf m .cellStarts) ≡ suc (cellCount (gridOf m .side))
+module _ (m : Mesh) (settings : Settings) where
+  pub cell-starts-length : length (gridOf m settings .cellStarts) ≡ suc (cellCount (gridOf m settings .side))
   unfolding gridOf
-  cell-starts-length = length-starts (cellCount (sideOf (count m))) (idsIn m)
+  cell-starts-length = length-starts (cellCount (sideOf (settings .factor) (count m))) (idsIn m settings)
 
-  pub cell-starts-last : getD (gridOf m .cellStarts) (cellCount (gridOf m .side)) 0 ≡ length (gridOf m .cellIds)
+  pub cell-starts-last : getD (gridOf m settings .cellStarts) (cellCount (gridOf m settings .side)) 0 ≡ length (gridOf m settings .cellIds)
   unfolding gridOf
   cell-starts-last =
-      let cells : ℕ = cellCount (sideOf (count m)) in
-      starts-at cells (idsIn m) cells (omega arith) ∙ sym (length-concatenate cells (idsIn m))
+      let cells : ℕ = cellCount (sideOf (settings .factor) (count m)) in
+      starts-at cells (idsIn m settings) cells (omega arith) ∙ sym (length-concatenate cells (idsIn m settings))
 
-  pub triangle-starts-length : length (gridOf m .triangleStarts) ≡ suc (count m)
+  pub triangle-starts-length : length (gridOf m settings .triangleStarts) ≡ suc (count m)
   unfolding gridOf
   triangle-starts-length = length-starts (count m) (trianglesAt m)
 
-  pub triples-total : length (gridOf m .triples) ≡ startOf (trianglesAt m) (count m) * 3
+  pub triples-total : length (gridOf m settings .triples) ≡ startOf (trianglesAt m) (count m) * 3
   unfolding gridOf
   triples-total =
       length-concatenate (count m) (λ v. flatten (trianglesAt m v))
       ∙ start-scaled 3 (count m) (trianglesAt m) (λ v. flatten (trianglesAt m v)) (λ v lt. triples-length m v)
 
-  pub triangle-starts-last : getD (gridOf m .triangleStarts) (count m) 0 * 3 ≡ length (gridOf m .triples)
+  pub triangle-starts-last : getD (gridOf m settings .triangleStarts) (count m) 0 * 3 ≡ length (gridOf m settings .triples)
   unfolding gridOf
   triangle-starts-last = ap (λ (k : ℕ). k * 3) (starts-at (count m) (trianglesAt m) (count m) (omega arith)) ∙ sym triples-total
 
   -- ---- an accepted call
-  pub built-rows : (lent : GridSlices) (g : ℕ) → build m lent .answered ≡ Built g → buildRows m lent ≡ Passed
+  pub built-rows : (lent : GridSlices) (g : ℕ) → build m settings lent .answered ≡ Built g → buildRows m settings lent ≡ Passed
   unfolding build
   built-rows lent g h =
-      answer-passed (λ (o : BuildOutcome). o .answered ≡ Built g) (buildRows m lent) _ _ h
+      answer-passed (λ (o : BuildOutcome). o .answered ≡ Built g) (buildRows m settings lent) _ _ h
       (λ reason e. let z : _≡_ {A = ℕ} 0 1 = cc in omega arith)
 
-  built-side : (lent : GridSlices) (g : ℕ) → buildRows m lent ≡ Passed → build m lent .answered ≡ Built g → g ≡ gridOf m .side
+  built-side : (lent : GridSlices) (g : ℕ) → buildRows m settings lent ≡ Passed → build m settings lent .answered ≡ Built g → g ≡ gridOf m settings .side
   unfolding build gridOf
-  built-side lent g ok h = let e : Built (sideOf (count m)) ≡ Built g = rw ok at h in cc
+  built-side lent g ok h = let e : Built (sideOf (settings .factor) (count m)) ≡ Built g = rw ok at h in cc
 
-  built-slices : (lent : GridSlices) → buildRows m lent ≡ Passed → build m lent .slices ≡ filled (gridOf m) lent
+  built-slices : (lent : GridSlices) → buildRows m settings lent ≡ Passed → build m settings lent .slices ≡ filled (gridOf m settings) lent
   unfolding build
   built-slices lent ok = rw ok refl
 
-  cut-filled : (lent : GridSlices) → cut (count m) (gridOf m .side) (filled (gridOf m) lent) ≡ gridOf m
+  -- the pair is recorded
+  pub settings-kept : gridOf m settings .settings ≡ settings
+  unfolding gridOf
+  settings-kept = refl
+
+  cut-filled : (lent : GridSlices) → cut settings (count m) (gridOf m settings .side) (filled (gridOf m settings) lent) ≡ gridOf m settings
   unfolding cut filled
   cut-filled lent =
-      let G = gridOf m in
+      let G = gridOf m settings in
       let cells = cellCount (G .side) in
       let cell-starts = take-overwrite (G .cellStarts) (lent .cellStarts) (suc cells) cell-starts-length in
       let cell-ids = take-overwrite (G .cellIds) (lent .cellIds) (getD (overwrite (G .cellStarts) (lent .cellStarts)) cells 0)
@@ -69,9 +75,10 @@ module _ (m : Mesh) where
       let triangle-starts = take-overwrite (G .triangleStarts) (lent .triangleStarts) (suc (count m)) triangle-starts-length in
       let triples = take-overwrite (G .triples) (lent .triples) (getD (overwrite (G .triangleStarts) (lent .triangleStarts)) (count m) 0 * 3)
       (sym triangle-starts-last ∙ ap (λ (k : ℕ). k * 3) (sym (overwrite-at (G .triangleStarts) (lent .triangleStarts) (count m) 0 (omega (arith, triangle-starts-length))))) in
-      rw (cell-starts, cell-ids, triangle-starts, triples) refl
+      rw (cell-starts, cell-ids, triangle-starts, triples)
+      (λ t. record { settings = sym settings-kept t; side = G .side; cellStarts = G .cellStarts; cellIds = G .cellIds; triangleStarts = G .triangleStarts; triples = G .triples })
 
-  pub cut-build : (lent : GridSlices) (g : ℕ) → build m lent .answered ≡ Built g → cut (count m) g (build m lent .slices) ≡ gridOf m
+  pub cut-build : (lent : GridSlices) (g : ℕ) → build m settings lent .answered ≡ Built g → cut settings (count m) g (build m settings lent .slices) ≡ gridOf m settings
   cut-build lent g h =
       let ok = built-rows lent g h in
       rw (built-side lent g ok h, built-slices lent ok) (cut-filled lent)

@@ -1,6 +1,8 @@
 pub mod CubeFace
+pub mod SettingsRows
 pub mod SideBound
 pub mod SideLeast
+pub mod SideTested
 pub mod Placing
 pub mod Passes
 pub mod TrianglePass
@@ -9,5 +11,7 @@ pub mod Cells
 pub mod Triangles
 pub mod Grid
 pub mod Room
+pub mod Margin
+pub mod Stored
 pub mod BuiltBelow
 pub mod Refusals

@@ -19,6 +19,7 @@ use Rattle.mesh.specs.Mesh.{Mesh, count, neighbours}
 use Rattle.mesh.specs.Adjacency.{Mutual, NoRepeat}
 use Rattle.mesh.proofs.Facts.{AdjacencyFacts, MeshFacts, mesh-passed}
 use Rattle.mesh.proofs.Renumbered.{Renumbered, renumbered-flip, mutual-renumbered, no-repeat-renumbered}
+use Rattle.grid.specs.declared.Settings.{Settings}
 use Rattle.grid.specs.Triangles.{trianglesOfEdge, trianglesFrom, triangles, trianglesAt}
 use Rattle.grid.specs.Grid.{GridSlices, gridOf, slicesFit, buildRows}
 use Rattle.grid.proofs.Cells.{same-cell-starts, same-ids-length}
@@ -92,7 +93,7 @@ no-fewer {m} {m₁} {p} {b} facts mutual-lists no-repeat r v =
     injective : (s t : List ℕ) → List·Memᴰ s (trianglesAt m v) → List·Memᴰ t (trianglesAt m v) → sort (map p s) ≡ sort (map p t) → s ≡ t
     injective s t hs ht e = sym (back s hs) ∙ ap (λ (u : List ℕ). sort (map b u)) e ∙ back t ht
 
-module _ (m m₁ : Mesh) {p b : ℕ → ℕ} (facts : AdjacencyFacts m) (facts₁ : AdjacencyFacts m₁) (mutual-lists : Mutual m) (no-repeat : NoRepeat m) (r : Renumbered m m₁ p b) where
+module _ (m m₁ : Mesh) (settings : Settings) {p b : ℕ → ℕ} (facts : AdjacencyFacts m) (facts₁ : AdjacencyFacts m₁) (mutual-lists : Mutual m) (no-repeat : NoRepeat m) (r : Renumbered m m₁ p b) where
   pub same-triangle-number : (v : ℕ) → v < count m → length (trianglesAt m₁ (p v)) ≡ length (trianglesAt m v)
   same-triangle-number v lt =
       let more = no-fewer facts mutual-lists no-repeat r v in
@@ -100,7 +101,7 @@ module _ (m m₁ : Mesh) {p b : ℕ → ℕ} (facts : AdjacencyFacts m) (facts�
       let again = ap (λ (u : ℕ). length (trianglesAt m u)) (r .bijection .left-inverse v lt) in
       omega arith
 
-  pub same-triples-length : length (gridOf m₁ .triples) ≡ length (gridOf m .triples)
+  pub same-triples-length : length (gridOf m₁ settings .triples) ≡ length (gridOf m settings .triples)
   unfolding gridOf
   same-triples-length =
       let total : (k : Mesh) → length (concatenate (count k) (λ v. flatten (trianglesAt k v))) ≡ startOf (trianglesAt k) (count k) * 3
@@ -110,14 +111,14 @@ module _ (m m₁ : Mesh) {p b : ℕ → ℕ} (facts : AdjacencyFacts m) (facts�
       total m₁ ∙ ap (λ (k : ℕ). k * 3) (ap (startOf (trianglesAt m₁)) (r .same-count) ∙ same) ∙ sym (total m)
 
   -- slices that are long enough for one grid are so for the other
-  pub same-room : (lent : GridSlices) → slicesFit (gridOf m₁) lent ≡ slicesFit (gridOf m) lent
+  pub same-room : (lent : GridSlices) → slicesFit (gridOf m₁ settings) lent ≡ slicesFit (gridOf m settings) lent
   unfolding slicesFit
   same-room lent =
-      let triangle-starts : length (gridOf m₁ .triangleStarts) ≡ length (gridOf m .triangleStarts) = triangle-starts-length m₁ ∙ ap suc (r .same-count) ∙ sym (triangle-starts-length m) in
-      rw (same-cell-starts m m₁ r, same-ids-length m m₁ r, triangle-starts, same-triples-length) refl
+      let triangle-starts : length (gridOf m₁ settings .triangleStarts) ≡ length (gridOf m settings .triangleStarts) = triangle-starts-length m₁ settings ∙ ap suc (r .same-count) ∙ sym (triangle-starts-length m settings) in
+      rw (same-cell-starts m m₁ settings r, same-ids-length m m₁ settings r, triangle-starts, same-triples-length) refl
 
 -- the builder accepts both meshes or neither
-pub same-build-rows : (m m₁ : Mesh) {p b : ℕ → ℕ} → MeshFacts m → MeshFacts m₁ → Mutual m → NoRepeat m → Renumbered m m₁ p b → (lent : GridSlices) → buildRows m₁ lent ≡ buildRows m lent
+pub same-build-rows : (m m₁ : Mesh) (settings : Settings) {p b : ℕ → ℕ} → MeshFacts m → MeshFacts m₁ → Mutual m → NoRepeat m → Renumbered m m₁ p b → (lent : GridSlices) → buildRows m₁ settings lent ≡ buildRows m settings lent
 unfolding buildRows
-same-build-rows m m₁ facts facts₁ mutual-lists no-repeat r lent =
-    rw (mesh-passed m facts, mesh-passed m₁ facts₁, same-room m m₁ (facts .adjacency) (facts₁ .adjacency) mutual-lists no-repeat r lent) refl
+same-build-rows m m₁ settings facts facts₁ mutual-lists no-repeat r lent =
+    rw (mesh-passed m facts, mesh-passed m₁ facts₁, same-room m m₁ settings (facts .adjacency) (facts₁ .adjacency) mutual-lists no-repeat r lent) refl

@@ -1,4 +1,4 @@
--- Bounds of the side of a grid: from 2 to 126 for every count from 1 to 65,536. Assumes nothing.
+-- Bounds of the side of a grid, for every count from 1 to 65,536: from 2 to 420 for every factor that row 19 lets pass, and to 126 for 1.2. Assumes nothing.
 use Prim.Native.Nat.{ℕ, zero, suc, _+_, _*_, _/_, _^_, _≤_, _<_}
 use native.Mathlib.Nat.{zero-mul, one-mul, mul-one, add-mul, mul-add, mul-assoc, mul-left-comm, mul-pos, mul-comm, mul-le-mul, mul-le-mul-right, div-lt-iff-lt-mul}
 use native.Mathlib.Omega.{arith}
@@ -13,11 +13,12 @@ use lib.Ieee.Back.{round-whole}
 use lib.Ieee.Order.{round-mono}
 use lib.Ieee.Fits.{up-pos, down-pos, and-l, div-fits, mul-fits}
 use lib.Ieee.Scale.{finite}
-use lib.Ieee.Positive.{num, den, den-pos, positive, positive-finite, value→cross, positive-of-value, le→cross, cross→le, between, mul-mono}
+use lib.Ieee.Positive.{num, den, den-pos, positive, positive-finite, value→cross, positive-of-value, le→cross, cross→le, values-of-le, between, mul-mono}
 use Rattle.binary64.specs.Integral.{ceilOf}
 use Rattle.binary64.proofs.Integral.{ceil-not-below, ceil-least}
 use Rattle.binary64.proofs.Flags.{or-left}
 use Rattle.binary64.proofs.FloatOrder.{le-of-not-lt}
+use Rattle.sequences.proofs.Range.{and-split}
 use Rattle.rounding.proofs.Sum.{round-zero}
 use Rattle.root.specs.Root.{squareRoot, scaledRoot, rootInHalves, integerRoot}
 use Rattle.root.specs.Middle.{MiddleAtMostRoot, MiddleAtLeastRoot}
@@ -25,7 +26,8 @@ use Rattle.root.proofs.Nearest.{squareRoot-finite, squareRoot-nearest}
 use Rattle.mesh.specs.Rows.{greatestCount}
 use Rattle.grid.specs.CubeFace.{zeroFloat}
 use Rattle.binary64.specs.Convert.{whole}
-use Rattle.grid.specs.Cells.{sideFactor, sideOf}
+use Rattle.grid.specs.Settings.{usualFactor, leastFactor, greatestFactor, factorFits}
+use Rattle.grid.specs.Cells.{sideAcross, sideOf}
 
 -- ---- the quotient by 6
 six-is : whole 6 ≡ fin false 3 (pos 1)
@@ -214,49 +216,103 @@ module _ (x : Float) (fitting : T (fits binary64 x)) (x-positive : T (positive x
   root-positive = between (fin false 1 (negsuc 1)) root (fin false 105 (pos 0)) tt tt root-at-least root-at-most
 
 -- ---- the side
-top-is : mul binary64 (fin false 105 (pos 0)) sideFactor ≡ fin false 63 (pos 1)
+-- A factor lies between two, and times them the least and the greatest root are worked out: no side is above `greatest`.
+pub record FactorReach (factor : Float) (greatest : ℕ) : Type 0 where
+  pub low : Float
+  pub high : Float
+  pub bottom : Float
+  pub top : Float
+  pub low-positive : T (positive low)
+  pub high-positive : T (positive high)
+  pub bottom-positive : T (positive bottom)
+  pub top-positive : T (positive top)
+  pub least : T (le low factor)
+  pub most : T (le factor high)
+  pub bottom-is : mul binary64 (fin false 1 (negsuc 1)) low ≡ bottom
+  pub top-is : mul binary64 (fin false 105 (pos 0)) high ≡ top
+  pub top-value : HasValue top false greatest 1
+  pub greatest-small : greatest < 2 ^ 32
+
+pub usual-reach : FactorReach usualFactor 126
 unfolding mul round
-top-is = refl
+usual-reach = record {
+  low = usualFactor;
+  high = usualFactor;
+  bottom = fin false 5404319552844595 (negsuc 53);
+  top = fin false 63 (pos 1);
+  low-positive = tt;
+  high-positive = tt;
+  bottom-positive = tt;
+  top-positive = tt;
+  least = le-self usualFactor tt;
+  most = le-self usualFactor tt;
+  bottom-is = refl;
+  top-is = refl;
+  top-value = (refl, refl);
+  greatest-small = omega arith;
+}
 
-bottom-is : mul binary64 (fin false 1 (negsuc 1)) sideFactor ≡ fin false 5404319552844595 (negsuc 53)
-unfolding mul round
-bottom-is = refl
+-- every factor that row 19 lets pass
+pub allowed-reach : (factor : Float) → factorFits factor ≡ true → FactorReach factor 420
+unfolding mul round factorFits
+allowed-reach factor h =
+    let both = and-split (le leastFactor factor) (le factor greatestFactor) h in
+    record {
+      low = leastFactor;
+      high = greatestFactor;
+      bottom = fin false 1 (negsuc 2);
+      top = fin false 105 (pos 2);
+      low-positive = tt;
+      high-positive = tt;
+      bottom-positive = tt;
+      top-positive = tt;
+      least = flag-true _ (both .0);
+      most = flag-true _ (both .1);
+      bottom-is = refl;
+      top-is = refl;
+      top-value = (refl, refl);
+      greatest-small = omega arith;
+    }
 
--- a root from a quarter to 105 times the factor, and its ceiling
-module _ (q : Float) (q-positive : T (positive q)) (least : T (le (fin false 1 (negsuc 1)) q)) (most : T (le q (fin false 105 (pos 0)))) where
-  abbrev across : Float
-  across = mul binary64 q sideFactor
+module _ {factor : Float} {greatest : ℕ} (reach : FactorReach factor greatest) where
+  pub factor-positive : T (positive factor)
+  factor-positive = between (reach .low) factor (reach .high) (reach .low-positive) (reach .high-positive) (reach .least) (reach .most)
 
-  across-most : T (le across (fin false 63 (pos 1)))
-  across-most =
-      subst (λ (z : Float). T (le across z)) top-is
-      (mul-mono binary64 q (fin false 105 (pos 0)) sideFactor sideFactor q-positive tt tt tt most (le-self sideFactor tt))
+  -- a root from a quarter to 105 times the factor, and its ceiling
+  module _ (q : Float) (q-positive : T (positive q)) (least : T (le (fin false 1 (negsuc 1)) q)) (most : T (le q (fin false 105 (pos 0)))) where
+    abbrev across : Float
+    across = mul binary64 q factor
 
-  across-least : T (le (fin false 5404319552844595 (negsuc 53)) across)
-  across-least =
-      subst (λ (z : Float). T (le z across)) bottom-is
-      (mul-mono binary64 (fin false 1 (negsuc 1)) q sideFactor sideFactor tt q-positive tt tt least (le-self sideFactor tt))
+    across-most : T (le across (reach .top))
+    across-most =
+        subst (λ (z : Float). T (le across z)) (reach .top-is)
+        (mul-mono binary64 q (fin false 105 (pos 0)) factor (reach .high) q-positive tt factor-positive (reach .high-positive) most (reach .most))
 
-  pub across-positive : T (positive across)
-  across-positive = between (fin false 5404319552844595 (negsuc 53)) across (fin false 63 (pos 1)) tt tt across-least across-most
+    across-least : T (le (reach .bottom) across)
+    across-least =
+        subst (λ (z : Float). T (le z across)) (reach .bottom-is)
+        (mul-mono binary64 (fin false 1 (negsuc 1)) q (reach .low) factor tt q-positive (reach .low-positive) factor-positive least (reach .least))
 
-  ceil-most : T (le (ceilOf across) (fin false 63 (pos 1)))
-  ceil-most = ceil-least across (fin false 63 (pos 1)) false 126 (mul-fits binary64 q sideFactor) (refl, refl) across-most
+    pub across-positive : T (positive across)
+    across-positive = between (reach .bottom) across (reach .top) (reach .bottom-positive) (reach .top-positive) across-least across-most
 
-  pub ceil-positive : T (positive (ceilOf across))
-  ceil-positive =
-      between across (ceilOf across) (fin false 63 (pos 1)) across-positive tt
-      (ceil-not-below across (mul-fits binary64 q sideFactor) (subst (λ (b : Bool). T (not b)) (sym (finite-number across (positive-finite across across-positive))) tt)) ceil-most
+    ceil-most : T (le (ceilOf across) (reach .top))
+    ceil-most = ceil-least across (reach .top) false greatest (mul-fits binary64 q factor) (reach .top-value) across-most
 
--- a value above zero that is at most 126, as a whole number
-converted-at-most : (x : Float) → T (positive x) → T (le x (fin false 63 (pos 1))) → toUnsigned 64 x ≤ 126
+    pub ceil-positive : T (positive (ceilOf across))
+    ceil-positive =
+        between across (ceilOf across) (reach .top) across-positive (reach .top-positive)
+        (ceil-not-below across (mul-fits binary64 q factor) (subst (λ (b : Bool). T (not b)) (sym (finite-number across (positive-finite across across-positive))) tt)) ceil-most
+
+-- a value above zero that is at most a whole number, converted
+converted-at-most : (x top : Float) (t : ℕ) → T (positive x) → T (positive top) → HasValue top false t 1 → T (le x top) → toUnsigned 64 x ≤ t
 unfolding toUnsigned
-converted-at-most nan p h = absurd p
-converted-at-most (inf s) p h = absurd p
-converted-at-most (fin true m e) p h = absurd p
-converted-at-most (fin false m e) p h =
-    let c = le→cross (fin false m e) (fin false 63 (pos 1)) p tt h in
-    let q : m * up e / down e < 127 = div-lt-iff-lt-mul (down-pos e) .1 (omega (arith, down-pos e)) in
+converted-at-most nan top t p q v h = absurd p
+converted-at-most (inf s) top t p q v h = absurd p
+converted-at-most (fin true m e) top t p q v h = absurd p
+converted-at-most (fin false m e) top t p q v h =
+    let c : m * up e * 1 ≤ t * down e = values-of-le (fin false m e) top (m * up e) (down e) t 1 p q (refl, mul-comm (m * up e) (down e) ∙ mul-comm (down e) (m * up e)) v h in
+    let d : m * up e / down e < suc t = div-lt-iff-lt-mul (down-pos e) .1 (omega (arith, down-pos e, add-mul 1 t (down e))) in
     omega arith
 
 converts-above : (x : Float) → T (positive x) → T (lt (fin true 1 (pos 0)) x)
@@ -266,34 +322,52 @@ converts-above (inf s) p = absurd p
 converts-above (fin true m e) p = absurd p
 converts-above (fin false m e) p = lt→ltb 0 (1 * 1 * down e + m * up e * 1) (omega (arith, down-pos e))
 
-converts-below : (x : Float) → T (positive x) → T (le x (fin false 63 (pos 1))) → T (lt x (fin false 1 (pos 64)))
+converts-below : (x top : Float) (t : ℕ) → T (positive x) → T (positive top) → HasValue top false t 1 → t < 2 ^ 32 → T (le x top) → T (lt x (fin false 1 (pos 64)))
 unfolding lt
-converts-below nan p h = absurd p
-converts-below (inf s) p h = absurd p
-converts-below (fin true m e) p h = absurd p
-converts-below (fin false m e) p h =
-    let c = le→cross (fin false m e) (fin false 63 (pos 1)) p tt h in
+converts-below nan top t p q v small h = absurd p
+converts-below (inf s) top t p q v small h = absurd p
+converts-below (fin true m e) top t p q v small h = absurd p
+converts-below (fin false m e) top t p q v small h =
+    let c : m * up e * 1 ≤ t * down e = values-of-le (fin false m e) top (m * up e) (down e) t 1 p q (refl, mul-comm (m * up e) (down e) ∙ mul-comm (down e) (m * up e)) v h in
+    let d : t * down e ≤ 2 ^ 32 * down e = mul-le-mul-right (down e) (omega arith) in
     lt→ltb (m * up e * 1) (1 * 2 ^ 64 * down e) (omega (arith, down-pos e))
 
-module _ (n : ℕ) (some : 1 ≤ n) (few : n ≤ greatestCount) where
+module _ {factor : Float} {greatest : ℕ} (reach : FactorReach factor greatest) (n : ℕ) (some : 1 ≤ n) (few : n ≤ greatestCount) where
   -- what the side is the conversion of
   abbrev pub sideFloat : Float
-  sideFloat = ceilOf (mul binary64 (squareRoot binary64 (div binary64 (whole n) (whole 6))) sideFactor)
+  sideFloat = ceilOf (sideAcross factor n)
 
-  pub side-float : T (positive sideFloat) × T (le sideFloat (fin false 63 (pos 1)))
-  side-float =
-      let x = quotient n some few in
-      let fitting = div-fits binary64 (whole n) (whole 6) in
-      let positive-x = quotient-positive n some few in
-      let least = root-at-least x fitting positive-x (quotient-above n some few) (quotient-below n some few) in
-      let most = root-at-most x fitting positive-x (quotient-above n some few) (quotient-below n some few) in
-      let positive-root = root-positive x fitting positive-x (quotient-above n some few) (quotient-below n some few) in
-      (ceil-positive (squareRoot binary64 x) positive-root least most, ceil-most (squareRoot binary64 x) positive-root least most)
+  abbrev rootOfSixth : Float
+  rootOfSixth = squareRoot binary64 (quotient n some few)
+
+  fitting : T (fits binary64 (quotient n some few))
+  fitting = div-fits binary64 (whole n) (whole 6)
+
+  positive-root : T (positive rootOfSixth)
+  positive-root = root-positive (quotient n some few) fitting (quotient-positive n some few) (quotient-above n some few) (quotient-below n some few)
+
+  least : T (le (fin false 1 (negsuc 1)) rootOfSixth)
+  least = root-at-least (quotient n some few) fitting (quotient-positive n some few) (quotient-above n some few) (quotient-below n some few)
+
+  most : T (le rootOfSixth (fin false 105 (pos 0)))
+  most = root-at-most (quotient n some few) fitting (quotient-positive n some few) (quotient-above n some few) (quotient-below n some few)
+
+  pub side-across-positive : T (positive (sideAcross factor n))
+  side-across-positive = across-positive reach rootOfSixth positive-root least most
+
+  pub side-float : T (positive sideFloat) × T (le sideFloat (reach .top))
+  side-float = (ceil-positive reach rootOfSixth positive-root least most, ceil-most reach rootOfSixth positive-root least most)
 
   -- the ceiling lies in the range that the conversion to an unsigned number asks for
   pub side-converts : T (lt (fin true 1 (pos 0)) sideFloat) × T (lt sideFloat (fin false 1 (pos 64)))
-  side-converts = (converts-above sideFloat (side-float .0), converts-below sideFloat (side-float .0) (side-float .1))
+  side-converts = (converts-above sideFloat (side-float .0), converts-below sideFloat (reach .top) greatest (side-float .0) (reach .top-positive) (reach .top-value) (reach .greatest-small) (side-float .1))
 
-  pub side-bound : (2 ≤ sideOf n) × (sideOf n ≤ 126)
+  pub side-within : 2 ≤ greatest → (2 ≤ sideOf factor n) × (sideOf factor n ≤ greatest)
   unfolding sideOf
-  side-bound = let c = converted-at-most sideFloat (side-float .0) (side-float .1) in (omega arith, omega arith)
+  side-within two = let c = converted-at-most sideFloat (reach .top) greatest (side-float .0) (reach .top-positive) (reach .top-value) (side-float .1) in (omega arith, omega arith)
+
+pub side-bound : (factor : Float) (n : ℕ) → factorFits factor ≡ true → 1 ≤ n → n ≤ greatestCount → (2 ≤ sideOf factor n) × (sideOf factor n ≤ 420)
+side-bound factor n h some few = side-within (allowed-reach factor h) n some few (omega arith)
+
+pub usual-side-bound : (n : ℕ) → 1 ≤ n → n ≤ greatestCount → (2 ≤ sideOf usualFactor n) × (sideOf usualFactor n ≤ 126)
+usual-side-bound n some few = side-within usual-reach n some few (omega arith)

@@ -23,8 +23,9 @@ use Rattle.root.specs.Root.{squareRoot, scaledRoot, rootInHalves, integerRoot}
 use Rattle.root.proofs.IntegerRoot.{integer-root}
 use Rattle.mesh.specs.Rows.{greatestCount}
 use Rattle.binary64.specs.Convert.{whole}
-use Rattle.grid.specs.Cells.{sideFactor, sideOf}
-use Rattle.grid.proofs.SideBound.{whole-cross, quotient, quotient-is, quotient-positive, quotient-above, quotient-below, root-at-most, root-at-least, root-positive, across-positive, ceil-positive, finite-number, le-self, side-bound}
+use Rattle.grid.specs.Settings.{usualFactor}
+use Rattle.grid.specs.Cells.{sideOf}
+use Rattle.grid.proofs.SideBound.{whole-cross, quotient, quotient-is, quotient-positive, quotient-above, quotient-below, root-at-most, root-at-least, root-positive, across-positive, ceil-positive, finite-number, le-self, usual-reach, usual-side-bound}
 
 -- ---- the root keeps the order
 at-most : (b : Bool) (r : ℕ) → cond b (2 * r) (2 * r + 1) ≤ 2 * r + 1
@@ -115,7 +116,7 @@ module _ (n k : ℕ) (some : 1 ≤ n) (grown : n ≤ k) (few : k ≤ greatestCou
       (subst (λ (z : Float). T (le (round binary64 false (num w * 1) (3 * 2 * den w)) z)) (sym (quotient-is k (le-trans some grown) few))
       (round-mono binary64 (num w * 1) (3 * 2 * den w) (num v * 1) (3 * 2 * den v) (omega (arith, den-pos w)) (omega (arith, den-pos v)) (crossed n k (num w * 1) (den w) (num v * 1) (den v) grown cw cv)))
 
-  pub side-grows : sideOf n ≤ sideOf k
+  pub side-grows : sideOf usualFactor n ≤ sideOf usualFactor k
   unfolding sideOf
   side-grows =
       let fw = le-trans grown few in
@@ -132,14 +133,14 @@ module _ (n k : ℕ) (some : 1 ≤ n) (grown : n ≤ k) (few : k ≤ greatestCou
       let ly = root-at-least y fy py (quotient-above k sv few) (quotient-below k sv few) in
       let mx = root-at-most x fx px (quotient-above n some fw) (quotient-below n some fw) in
       let my = root-at-most y fy py (quotient-above k sv few) (quotient-below k sv few) in
-      let a = mul binary64 (squareRoot binary64 x) sideFactor in
-      let b = mul binary64 (squareRoot binary64 y) sideFactor in
-      let ab = mul-mono binary64 (squareRoot binary64 x) (squareRoot binary64 y) sideFactor sideFactor rx ry tt tt (root-grows x y px py quotient-grows) (le-self sideFactor tt) in
-      let pa = across-positive (squareRoot binary64 x) rx lx mx in
-      let pb = across-positive (squareRoot binary64 y) ry ly my in
-      let ca = ceil-positive (squareRoot binary64 x) rx lx mx in
-      let cb = ceil-positive (squareRoot binary64 y) ry ly my in
-      let c = conversion-grows (ceilOf a) (ceilOf b) ca cb (ceil-grows a b (mul-fits binary64 (squareRoot binary64 x) sideFactor) (mul-fits binary64 (squareRoot binary64 y) sideFactor) pa pb cb ab) in
+      let a = mul binary64 (squareRoot binary64 x) usualFactor in
+      let b = mul binary64 (squareRoot binary64 y) usualFactor in
+      let ab = mul-mono binary64 (squareRoot binary64 x) (squareRoot binary64 y) usualFactor usualFactor rx ry tt tt (root-grows x y px py quotient-grows) (le-self usualFactor tt) in
+      let pa = across-positive usual-reach (squareRoot binary64 x) rx lx mx in
+      let pb = across-positive usual-reach (squareRoot binary64 y) ry ly my in
+      let ca = ceil-positive usual-reach (squareRoot binary64 x) rx lx mx in
+      let cb = ceil-positive usual-reach (squareRoot binary64 y) ry ly my in
+      let c = conversion-grows (ceilOf a) (ceilOf b) ca cb (ceil-grows a b (mul-fits binary64 (squareRoot binary64 x) usualFactor) (mul-fits binary64 (squareRoot binary64 y) usualFactor) pa pb cb ab) in
       omega arith
 
 -- ---- the ends
@@ -148,7 +149,7 @@ abbrev lastCount : ℕ → ℕ
 lastCount g = 25 * (g * g) / 6
 
 abbrev endsAt : ℕ → Bool
-endsAt g = eqb (sideOf (lastCount g)) g && eqb (sideOf (lastCount g + 1)) (g + 1)
+endsAt g = eqb (sideOf usualFactor (lastCount g)) g && eqb (sideOf usualFactor (lastCount g + 1)) (g + 1)
 
 -- the sides from 2 to 125, in parts: a single term takes only so many steps
 part-1 : allBelow (λ i. endsAt (i + 2)) 31 ≡ true
@@ -186,44 +187,44 @@ last-some : (g : ℕ) → 2 ≤ g → 1 ≤ lastCount g
 last-some g h = let s : 2 * 2 ≤ g * g = mul-le-mul h h in omega arith
 
 module _ (n g : ℕ) (some : 1 ≤ n) (few : n ≤ greatestCount) (lower : 2 ≤ g) (upper : g ≤ 125) where
-  at-most-side : 6 * n ≤ 25 * (g * g) → sideOf n ≤ g
+  at-most-side : 6 * n ≤ 25 * (g * g) → sideOf usualFactor n ≤ g
   at-most-side h =
-      let e = eqb-true (sideOf (lastCount g)) g (and-split (eqb (sideOf (lastCount g)) g) (eqb (sideOf (lastCount g + 1)) (g + 1)) (ends g lower upper) .0) in
+      let e = eqb-true (sideOf usualFactor (lastCount g)) g (and-split (eqb (sideOf usualFactor (lastCount g)) g) (eqb (sideOf usualFactor (lastCount g + 1)) (g + 1)) (ends g lower upper) .0) in
       let z = side-grows n (lastCount g) some (omega arith) (omega (arith, last-few g upper)) in
       omega arith
 
-  above-side : 25 * (g * g) < 6 * n → g + 1 ≤ sideOf n
+  above-side : 25 * (g * g) < 6 * n → g + 1 ≤ sideOf usualFactor n
   above-side h =
-      let e = eqb-true (sideOf (lastCount g + 1)) (g + 1) (and-split (eqb (sideOf (lastCount g)) g) (eqb (sideOf (lastCount g + 1)) (g + 1)) (ends g lower upper) .1) in
+      let e = eqb-true (sideOf usualFactor (lastCount g + 1)) (g + 1) (and-split (eqb (sideOf usualFactor (lastCount g)) g) (eqb (sideOf usualFactor (lastCount g + 1)) (g + 1)) (ends g lower upper) .1) in
       let z = side-grows (lastCount g + 1) n (omega arith) (omega arith) few in
       omega arith
 
 -- The side is the least g, 2 at least, with 6 * n ≤ 25 * g².
-pub side-least : (n g : ℕ) → 1 ≤ n → n ≤ greatestCount → 2 ≤ g → g ≤ 126 → (leb (6 * n) (25 * (g * g)) && (eqb g 2 || ltb (25 * ((g - 1) * (g - 1))) (6 * n))) ≡ eqb g (sideOf n)
+pub side-least : (n g : ℕ) → 1 ≤ n → n ≤ greatestCount → 2 ≤ g → g ≤ 126 → (leb (6 * n) (25 * (g * g)) && (eqb g 2 || ltb (25 * ((g - 1) * (g - 1))) (6 * n))) ≡ eqb g (sideOf usualFactor n)
 side-least n g some few lower upper = go (tested (6 * n) (25 * (g * g))) (tested g 2) (tested (6 * n) (25 * ((g - 1) * (g - 1))))
   where
-    bounds : (2 ≤ sideOf n) × (sideOf n ≤ 126)
-    bounds = side-bound n some few
+    bounds : (2 ≤ sideOf usualFactor n) × (sideOf usualFactor n ≤ 126)
+    bounds = usual-side-bound n some few
 
-    at-most : 6 * n ≤ 25 * (g * g) → Tested g 125 → sideOf n ≤ g
+    at-most : 6 * n ≤ 25 * (g * g) → Tested g 125 → sideOf usualFactor n ≤ g
     at-most h (inl l) = at-most-side n g some few lower (l .0) h
     at-most h (inr l) = omega (arith, l .0, bounds .1)
 
-    above : 25 * (g * g) < 6 * n → Tested g 125 → g + 1 ≤ sideOf n
+    above : 25 * (g * g) < 6 * n → Tested g 125 → g + 1 ≤ sideOf usualFactor n
     above h (inl l) = above-side n g some few lower (l .0) h
     above h (inr l) =
         let last : g ≡ 126 = omega (arith, l .0) in
         absurd (let z : ⊥ = omega (arith, (rw last at h)) in z)
 
     go : Tested (6 * n) (25 * (g * g)) → Tested g 2 → Tested (6 * n) (25 * ((g - 1) * (g - 1)))
-        → (leb (6 * n) (25 * (g * g)) && (eqb g 2 || ltb (25 * ((g - 1) * (g - 1))) (6 * n))) ≡ eqb g (sideOf n)
-    go (inr more) t u = rw (more .1) (sym (ne-eqb g (sideOf n) (λ e. absurd (let z : ⊥ = omega (arith, above (more .0) (tested g 125)) in z))))
+        → (leb (6 * n) (25 * (g * g)) && (eqb g 2 || ltb (25 * ((g - 1) * (g - 1))) (6 * n))) ≡ eqb g (sideOf usualFactor n)
+    go (inr more) t u = rw (more .1) (sym (ne-eqb g (sideOf usualFactor n) (λ e. absurd (let z : ⊥ = omega (arith, above (more .0) (tested g 125)) in z))))
     go (inl less) (inl two) u =
         let is : g ≡ 2 = omega (arith, two .0) in
-        rw (less .1, eq-eqb g 2 is) (sym (eq-eqb g (sideOf n) (omega (arith, at-most (less .0) (tested g 125), bounds .0))))
+        rw (less .1, eq-eqb g 2 is) (sym (eq-eqb g (sideOf usualFactor n) (omega (arith, at-most (less .0) (tested g 125), bounds .0))))
     go (inl less) (inr more) (inr above-last) =
         let before = above-side n (g - 1) some few (omega (arith, more .0)) (omega arith) (above-last .0) in
-        rw (less .1, ne-eqb g 2 (λ e. absurd (let z : ⊥ = omega (arith, more .0) in z)), lt-ltb (25 * ((g - 1) * (g - 1))) (6 * n) (above-last .0)) (sym (eq-eqb g (sideOf n) (omega (arith, at-most (less .0) (tested g 125), before, more .0))))
+        rw (less .1, ne-eqb g 2 (λ e. absurd (let z : ⊥ = omega (arith, more .0) in z)), lt-ltb (25 * ((g - 1) * (g - 1))) (6 * n) (above-last .0)) (sym (eq-eqb g (sideOf usualFactor n) (omega (arith, at-most (less .0) (tested g 125), before, more .0))))
     go (inl less) (inr more) (inl in-last) =
         let before = at-most-side n (g - 1) some few (omega (arith, more .0)) (omega arith) (in-last .0) in
-        rw (less .1, ne-eqb g 2 (λ e. absurd (let z : ⊥ = omega (arith, more .0) in z)), le-ltb (25 * ((g - 1) * (g - 1))) (6 * n) (in-last .0)) (sym (ne-eqb g (sideOf n) (λ e. absurd (let z : ⊥ = omega (arith, before, more .0) in z))))
+        rw (less .1, ne-eqb g 2 (λ e. absurd (let z : ⊥ = omega (arith, more .0) in z)), le-ltb (25 * ((g - 1) * (g - 1))) (6 * n) (in-last .0)) (sym (ne-eqb g (sideOf usualFactor n) (λ e. absurd (let z : ⊥ = omega (arith, before, more .0) in z))))

@@ -13,13 +13,17 @@ use Rattle.refusal.specs.declared.Verdict.the-variants.{Passed}
 use Rattle.refusal.specs.Refusal.{refusal, row, then, answer}
 use Rattle.mesh.specs.Mesh.{Mesh, count, positionOf}
 use Rattle.mesh.specs.Rows.{meshRows}
+use Rattle.grid.specs.declared.Settings.{Settings}
 use Rattle.grid.specs.declared.Build.{Build}
 use Rattle.grid.specs.declared.Build.the-variants.{Refused, Built}
+use Rattle.grid.specs.Settings.{settingsRows}
 use Rattle.grid.specs.Cells.{sideOf, cellCount, placedIn}
 use Rattle.grid.specs.Triangles.{trianglesAt}
 
 -- "A grid is g, cell starts (u32, 6g² + 1), cell ids (u16), triangle starts (u32, count + 1, in whole triples) and triples (u16, three ascending ids each, in the order of `extract_faces`), beside the positions."
+-- "The grid record keeps both", factor and margin (W-210).
 pub record Grid : Type 0 where
+  pub settings : Settings
   pub side : ℕ
   pub cellStarts : List ℕ
   pub cellIds : List ℕ
@@ -27,14 +31,15 @@ pub record Grid : Type 0 where
   pub triples : List ℕ
 
 -- "Ids in a cell ascend."
-unfoldable pub idsIn : Mesh → ℕ → List ℕ
-idsIn m cell = filterRange (λ v. placedIn (sideOf (count m)) cell (positionOf (m .positions) v)) (count m)
+unfoldable pub idsIn : Mesh → Settings → ℕ → List ℕ
+idsIn m settings cell = filterRange (λ v. placedIn (settings .margin) (sideOf (settings .factor) (count m)) cell (positionOf (m .positions) v)) (count m)
 
-unfoldable pub gridOf : Mesh → Grid
-gridOf m = record {
-  side = sideOf (count m);
-  cellStarts = startsOf (cellCount (sideOf (count m))) (idsIn m);
-  cellIds = concatenate (cellCount (sideOf (count m))) (idsIn m);
+unfoldable pub gridOf : Mesh → Settings → Grid
+gridOf m settings = record {
+  settings = settings;
+  side = sideOf (settings .factor) (count m);
+  cellStarts = startsOf (cellCount (sideOf (settings .factor) (count m))) (idsIn m settings);
+  cellIds = concatenate (cellCount (sideOf (settings .factor) (count m))) (idsIn m settings);
   triangleStarts = startsOf (count m) (trianglesAt m);
   triples = concatenate (count m) (λ v. flatten (trianglesAt m v));
 }
@@ -52,9 +57,9 @@ slicesFit grid lent =
     leb (length (grid .cellStarts)) (length (lent .cellStarts)) && (leb (length (grid .cellIds)) (length (lent .cellIds))
     && (leb (length (grid .triangleStarts)) (length (lent .triangleStarts)) && leb (length (grid .triples)) (length (lent .triples))))
 
--- The mesh rows 2 to 5, then 8.
-unfoldable pub buildRows : Mesh → GridSlices → Verdict
-buildRows m lent = then (meshRows m) (row (slicesFit (gridOf m) lent) (refusal 8) Passed)
+-- The mesh rows 2 to 5, then 19 and 20, "both just after the mesh rows", then 8.
+unfoldable pub buildRows : Mesh → Settings → GridSlices → Verdict
+buildRows m settings lent = then (meshRows m) (settingsRows settings (row (slicesFit (gridOf m settings) lent) (refusal 8) Passed))
 
 -- The slices after an accepted call: "surplus is untouched".
 unfoldable pub filled : Grid → GridSlices → GridSlices
@@ -70,14 +75,15 @@ pub record BuildOutcome : Type 0 where
   pub answered : Build
   pub slices : GridSlices
 
-unfoldable pub build : Mesh → GridSlices → BuildOutcome
-build m lent =
-    answer (buildRows m lent) (λ reason. record { answered = Refused reason; slices = lent })
-    (record { answered = Built (sideOf (count m)); slices = filled (gridOf m) lent })
+unfoldable pub build : Mesh → Settings → GridSlices → BuildOutcome
+build m settings lent =
+    answer (buildRows m settings lent) (λ reason. record { answered = Refused reason; slices = lent })
+    (record { answered = Built (sideOf (settings .factor) (count m)); slices = filled (gridOf m settings) lent })
 
 -- What was built for n vertices with the side g, "its slices cut to a grid's lengths".
-unfoldable pub cut : ℕ → ℕ → GridSlices → Grid
-cut n g slices = record {
+unfoldable pub cut : Settings → ℕ → ℕ → GridSlices → Grid
+cut settings n g slices = record {
+  settings = settings;
   side = g;
   cellStarts = take (suc (cellCount g)) (slices .cellStarts);
   cellIds = take (getD (slices .cellStarts) (cellCount g) 0) (slices .cellIds);

@@ -1,4 +1,5 @@
 pub mod CubeFace
+pub mod Settings
 pub mod Cells
 pub mod Triangles
 pub mod Grid
@@ -6,3 +7,4 @@ pub mod Placing
 pub mod Passes
 pub mod TrianglePass
 pub mod Builder
+pub mod Stored

@@ -6,6 +6,7 @@ pub mod Scan
 pub mod Triples
 pub mod VertexFound
 pub mod TriangleLocated
+pub mod PairRead
 pub mod Refusals
 pub mod Distance
 pub mod NearestCandidate

@@ -18,13 +18,15 @@ use Rattle.vector.specs.declared.Vector3.{Vector3}
 use Rattle.vector.specs.Vector.{normalized}
 use Rattle.vector.specs.Direction.{admissible}
 use Rattle.mesh.specs.Mesh.{vertexCount}
-use Rattle.mesh.specs.Rows.{notFalling, idsBelow}
+use Rattle.mesh.specs.Rows.{positionsFit, notFalling, idsBelow}
+use Rattle.grid.specs.Settings.{factorFits, marginFits}
 use Rattle.grid.specs.Grid.{Grid}
+use Rattle.grid.specs.Stored.{sideFits, startsCounted}
 use Rattle.grid_query.specs.declared.Nearest.{Nearest}
 use Rattle.grid_query.specs.declared.Nearest.the-variants as nearest
 use Rattle.grid_query.specs.declared.Located.{Located}
 use Rattle.grid_query.specs.declared.Located.the-variants as location
-use Rattle.grid_query.specs.Cell.{cellOfQuery, gridFits, startsCounted, partWithin, candidates, triplesAt, cellRows}
+use Rattle.grid_query.specs.Cell.{cellOfQuery, partWithin, candidates, triplesAt, cellRows}
 use Rattle.grid_query.specs.Nearest.{nearestOf, nearestIn, nearestVertex}
 use Rattle.grid_query.specs.Locate.{weighed, leastKept, keptOf, triplesWithin, triangleRows, locatedAt, locate}
 
@@ -65,6 +67,12 @@ module _ (P : Refusal → Type 0) (plain : (number : ℕ) → number ≢ 17 → 
   at-12 : P (refusal 12)
   at-12 = plain 12 (λ z. omega arith) (λ z. omega arith)
 
+  at-19 : P (refusal 19)
+  at-19 = plain 19 (λ z. omega arith) (λ z. omega arith)
+
+  at-20 : P (refusal 20)
+  at-20 = plain 20 (λ z. omega arith) (λ z. omega arith)
+
   falls : (starts : List ℕ) (i : ℕ) → (PartFalls starts i → P (refusalAt 18 (suc i))) → notFalling starts i ≡ false → P (refusalAt 18 (suc i))
   falls starts i at-18 e = at-18 (leb-false (getD starts i 0) (getD starts (suc i) 0) e)
 
@@ -72,17 +80,20 @@ module _ (P : Refusal → Type 0) (plain : (number : ℕ) → number ≢ 17 → 
     abbrev cell : ℕ
     cell = cellOfQuery grid direction
 
-    -- rows 2, 3, 9 and, in the cell, 18, 3, 11, 4
+    -- rows 2, 19, 20, 2, 3, 9 and, in the cell, 18, 3, 11, 4
     cell-reasons : EachReason P (cellRows grid positions direction)
     unfolding cellRows
     cell-reasons =
-        reasons-row P (gridFits grid positions) (refusal 2) _ (λ e. at-2) (λ fit.
+        reasons-row P (positionsFit positions) (refusal 2) _ (λ e. at-2) (λ fit.
+        reasons-row P (factorFits (grid .settings .factor)) (refusal 19) _ (λ e. at-19) (λ factor.
+        reasons-row P (marginFits (grid .settings .margin)) (refusal 20) _ (λ e. at-20) (λ margin.
+        reasons-row P (sideFits grid positions) (refusal 2) _ (λ e. at-2) (λ side.
         reasons-row P (startsCounted grid positions) (refusal 3) _ (λ e. at-3) (λ counted.
         reasons-row P (admissible direction) (refusal 9) _ (λ e. at-9) (λ admitted.
         reasons-row P (notFalling (grid .cellStarts) cell) (refusalAt 18 (suc cell)) _ (falls (grid .cellStarts) cell at-cell) (λ ascends.
         reasons-row P (partWithin (grid .cellStarts) (length (grid .cellIds)) cell) (refusal 3) _ (λ e. at-3) (λ within.
         reasons-row P (ltb 0 (length (candidates grid cell))) (refusal 11) _ (λ e. at-11) (λ some.
-        reasons-row P (idsBelow (vertexCount positions) (candidates grid cell)) (refusal 4) verdict.Passed (λ e. at-4) (λ below. reasons-passed P)))))))
+        reasons-row P (idsBelow (vertexCount positions) (candidates grid cell)) (refusal 4) verdict.Passed (λ e. at-4) (λ below. reasons-passed P))))))))))
 
     nearest-reason : NearestReason P (nearestVertex grid positions direction)
     unfolding nearestVertex nearestIn

@@ -26,7 +26,7 @@ use Rattle.grid_query.specs.Nearest.{nearestOf}
 use Rattle.grid_query.specs.Locate.{weighed, leastKept, keptOf, triplesWithin, triangleRows, locatedAt, locate}
 use Rattle.mesh.proofs.IdsBelow.{ids-below-at}
 
-never-located : (reason : Refusal) (triple : Triple) (weights : Weights) (least : Float) → location.Refused reason ≡ location.At triple weights least → ⊥
+pub never-located : (reason : Refusal) (triple : Triple) (weights : Weights) (least : Float) → location.Refused reason ≡ location.At triple weights least → ⊥
 never-located reason triple weights least h = let z : _≡_ {A = ℕ} 0 1 = cc in omega arith
 
 -- what exceeds anything is above minus infinity

@@ -26,7 +26,7 @@ use Rattle.mesh.proofs.IdsBelow.{ids-below-member}
 use Rattle.grid_query.proofs.GridRows.{cell-rows-then}
 use Rattle.grid_query.proofs.NearestCandidate.{nearest-member}
 
-never-found : (reason : Refusal) (id : ℕ) (distance : Float) (n : ℕ) → nearest.Refused reason ≡ nearest.Found id distance n → ⊥
+pub never-found : (reason : Refusal) (id : ℕ) (distance : Float) (n : ℕ) → nearest.Refused reason ≡ nearest.Found id distance n → ⊥
 never-found reason id distance n h = let z : _≡_ {A = ℕ} 0 1 = cc in omega arith
 
 -- a vertex that was found among the candidates of a cell

@@ -1,8 +1,8 @@
 -- The cell of a direction, and what a query asks of a grid before it reads the cell (document 01, "Cube grid" and below the table of refusals). Definitions only.
 use Prim.Native.Nat.{ℕ, suc, _+_, _-_, _*_}
-use mathlib.Core.Bool.{Bool, _&&_, cond}
+use mathlib.Core.Bool.{Bool, cond}
 use mathlib.Core.List.{List, [], _∷_}
-use lib.Dec.{leb, ltb, eqb}
+use lib.Dec.{leb, ltb}
 use lib.ListN.{length, getD}
 use lib.Ieee.{Float, lt, toUnsigned}
 use Rattle.sequences.specs.Starts.{part, blockPart}
@@ -13,17 +13,13 @@ use Rattle.vector.specs.declared.Vector3.{Vector3}
 use Rattle.vector.specs.Vector.{normalized}
 use Rattle.vector.specs.Direction.{admissible}
 use Rattle.mesh.specs.Mesh.{vertexCount}
-use Rattle.mesh.specs.Rows.{positionsFit, notFalling, idsBelow}
+use Rattle.mesh.specs.Rows.{notFalling, idsBelow}
 use Rattle.grid.specs.declared.Projected.{Projected}
 use Rattle.grid.specs.CubeFace.{zeroFloat, faceProjection, dominantFace}
 use Rattle.binary64.specs.Convert.{whole}
-use Rattle.grid.specs.Cells.{sideOf, cellCount, acrossCells}
+use Rattle.grid.specs.Cells.{acrossCells}
 use Rattle.grid.specs.Grid.{Grid}
-
--- A side and four lent slices as a grid.
-abbrev pub lentGrid : ℕ → List ℕ → List ℕ → List ℕ → List ℕ → Grid
-lentGrid side cellStarts cellIds triangleStarts triples =
-    record { side = side; cellStarts = cellStarts; cellIds = cellIds; triangleStarts = triangleStarts; triples = triples }
+use Rattle.grid.specs.Stored.{storedRows}
 
 -- A query "clamps to 0..g − 1 before it converts".
 unfoldable pub clampedCell : ℕ → Float → ℕ
@@ -39,15 +35,6 @@ cellOf g direction =
 -- "A query normalises its direction first".
 abbrev pub cellOfQuery : Grid → Vector3 → ℕ
 cellOfQuery grid direction = cellOf (grid .side) (normalized direction)
-
--- "A grid query checks count, positions and g against the count (2)"
-unfoldable pub gridFits : Grid → List Float → Bool
-gridFits grid positions = positionsFit positions && eqb (grid .side) (sideOf (vertexCount positions))
-
--- "the lengths of both start lists (3)"
-unfoldable pub startsCounted : Grid → List Float → Bool
-startsCounted grid positions =
-    eqb (length (grid .cellStarts)) (suc (cellCount (grid .side))) && eqb (length (grid .triangleStarts)) (suc (vertexCount positions))
 
 -- "it tries the part read for falling (18), then for running past the ids, still 3" (W-209). Of falling the mesh's `notFalling` is the test, here at one part alone. The part i ends within a list of so many places:
 unfoldable pub partWithin : List ℕ → ℕ → ℕ → Bool
@@ -68,12 +55,9 @@ inTriples (a ∷ b ∷ c ∷ rest) = (a ∷ b ∷ c ∷ []) ∷ inTriples rest
 unfoldable pub triplesAt : Grid → ℕ → List (List ℕ)
 triplesAt grid v = inTriples (blockPart 3 (grid .triangleStarts) (grid .triples) v)
 
--- Rows 2, 3, 9, which come before the cell is read, and then the next ones.
+-- Rows 2, 19, 20, 2, 3 and then 9, which come before the cell is read, and then the next ones.
 abbrev pub gridRows : Grid → List Float → Vector3 → Verdict → Verdict
-gridRows grid positions direction next =
-    row (gridFits grid positions) (refusal 2)
-    (row (startsCounted grid positions) (refusal 3)
-    (row (admissible direction) (refusal 9) next))
+gridRows grid positions direction next = storedRows grid positions (row (admissible direction) (refusal 9) next)
 
 -- "then in its cell" rows 18, 3, 11, 4. Where its part falls, the start below the one before it is that behind the cell's own.
 abbrev pub candidateRows : Grid → List Float → ℕ → Verdict

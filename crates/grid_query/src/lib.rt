@@ -11,8 +11,10 @@ ghost use Rattle.barycentric.specs.Weights.{leastWeight};
 ghost use Rattle.barycentric.specs.Ericson.{projectedBarycentric};
 ghost use Rattle.mesh.specs.Mesh.{vertexCount, positionOf};
 ghost use Rattle.mesh.specs.Rows.{greatestCount, idsBelow};
+ghost use Rattle.grid.specs.declared.Settings.{Settings};
+ghost use Rattle.grid.specs.Stored.{lentGrid};
 ghost use Rattle.grid_query.specs.declared.Located.the-variants.{Refused};
-ghost use Rattle.grid_query.specs.Cell.{lentGrid, clampedCell, cellOf, inTriples, gridRows};
+ghost use Rattle.grid_query.specs.Cell.{clampedCell, cellOf, inTriples, gridRows};
 ghost use Rattle.grid_query.specs.Nearest.{squaredDistance, nearestIn, nearestOfCell, nearestVertex};
 ghost use Rattle.grid_query.specs.Locate.{located, leastKept, keptOf, locatedAt, locate};
 use barycentric::Triple;
@@ -20,12 +22,14 @@ use barycentric::Weights;
 use barycentric::least_weight;
 use barycentric::projected_barycentric;
 use binary64::rank;
+use grid::Settings;
 use grid::across_cells;
+use grid::check_stored;
 use grid::cube_face_project;
 use grid::dominant_face;
+use grid::usual_passes;
 use mesh::ids_below;
 use mesh::position;
-use mesh::positions_fit;
 use mesh::vertex_count;
 use refusal::Refusal;
 use refusal::Verdict;
@@ -83,30 +87,28 @@ fn cell_index(side: usize, direction: Vector3) -> usize
     face * (side * side) + (ci * side + cj)
 }
 
-// Rows 2, 3 and 9, which come before the cell is read. Neither ids nor triples matter to them.
+// Rows 2, 19, 20, 2, 3 and 9, which come before the cell is read. Neither ids nor triples matter to them.
 fn check_grid(
     positions: &[f64],
+    settings: Settings,
     side: usize,
     cell_starts: &[u32],
     triangle_starts: &[u32],
     direction: Vector3,
 ) -> Verdict
-    ensures { λ r. ⌜ ((cellIds triples : List ℕ) → r ≡ gridRows (lentGrid side (now («cell_starts» .entry)) cellIds (now («triangle_starts» .entry)) triples) (now (positions .entry)) direction Passed) ⌝ }
+    ensures { λ r. ⌜ ((cellIds triples : List ℕ) → r ≡ gridRows (lentGrid settings side (now («cell_starts» .entry)) cellIds (now («triangle_starts» .entry)) triples) (now (positions .entry)) direction Passed) ⌝ }
 {
-    if !positions_fit(positions) {
-        return Verdict::Refused(Refusal::new(2));
+    let stored = check_stored(positions, settings, side, cell_starts, triangle_starts);
+    match stored {
+        Verdict::Refused(reason) => Verdict::Refused(reason),
+        Verdict::Passed => {
+            if direction.is_admissible() {
+                Verdict::Passed
+            } else {
+                Verdict::Refused(Refusal::new(9))
+            }
+        }
     }
-    let count = vertex_count(positions);
-    if !grid::side_is(side, count) {
-        return Verdict::Refused(Refusal::new(2));
-    }
-    if !((cell_starts.len() == 6 * (side * side) + 1) & (triangle_starts.len() == count + 1)) {
-        return Verdict::Refused(Refusal::new(3));
-    }
-    if !direction.is_admissible() {
-        return Verdict::Refused(Refusal::new(9));
-    }
-    Verdict::Passed
 }
 
 // The squared distance of a vertex from a direction.
@@ -155,7 +157,7 @@ fn nearest_of_cell(
     direction: Vector3,
 ) -> Nearest
     requires { ⌜ cell + 1 < length (now «cell_starts») ⌝ }
-    ensures { λ r. ⌜ ((side : ℕ) (triangleStarts triples : List ℕ) → r ≡ nearestOfCell (lentGrid side (now («cell_starts» .entry)) (now («cell_ids» .entry)) triangleStarts triples) (now (positions .entry)) direction cell) ⌝ }
+    ensures { λ r. ⌜ ((settings : Settings) (side : ℕ) (triangleStarts triples : List ℕ) → r ≡ nearestOfCell (lentGrid settings side (now («cell_starts» .entry)) (now («cell_ids» .entry)) triangleStarts triples) (now (positions .entry)) direction cell) ⌝ }
 {
     let next = cell + 1;
     let start = cell_starts[cell] as usize;
@@ -249,7 +251,7 @@ fn locate_at(
     direction: Vector3,
 ) -> Located
     requires { ⌜ vertex + 1 < length (now «triangle_starts») ⌝ }
-    ensures { λ r. ⌜ ((side : ℕ) (cellStarts cellIds : List ℕ) → r ≡ locatedAt (lentGrid side cellStarts cellIds (now («triangle_starts» .entry)) (now (triples .entry))) (now (positions .entry)) direction vertex) ⌝ }
+    ensures { λ r. ⌜ ((settings : Settings) (side : ℕ) (cellStarts cellIds : List ℕ) → r ≡ locatedAt (lentGrid settings side cellStarts cellIds (now («triangle_starts» .entry)) (now (triples .entry))) (now (positions .entry)) direction vertex) ⌝ }
 {
     let next = vertex + 1;
     let start = triangle_starts[vertex] as usize;
@@ -273,16 +275,29 @@ fn locate_at(
 // The nearest vertex of a direction, among the candidates of its cell. The grid's triples are not lent, and the answer holds whatever they are.
 pub fn find_nearest_vertex(
     positions: &[f64],
+    settings: Settings,
     side: u32,
     cell_starts: &[u32],
     cell_ids: &[u16],
     triangle_starts: &[u32],
     direction: Vector3,
 ) -> Nearest
-    ensures { λ r. ⌜ ((triples : List ℕ) → r ≡ nearestVertex (lentGrid side (now («cell_starts» .entry)) (now («cell_ids» .entry)) (now («triangle_starts» .entry)) triples) (now (positions .entry)) direction) ⌝ }
+    ensures { λ r. ⌜ ((triples : List ℕ) → r ≡ nearestVertex (lentGrid settings side (now («cell_starts» .entry)) (now («cell_ids» .entry)) (now («triangle_starts» .entry)) triples) (now (positions .entry)) direction) ⌝ }
 {
     let g = side as usize;
-    let verdict = check_grid(positions, g, cell_starts, triangle_starts, direction);
+    let usual = usual_passes(positions, settings, g, cell_starts, triangle_starts);
+    let verdict = if usual & direction.is_admissible() {
+        Verdict::Passed
+    } else {
+        check_grid(
+            positions,
+            settings,
+            g,
+            cell_starts,
+            triangle_starts,
+            direction,
+        )
+    };
     match verdict {
         Verdict::Refused(reason) => Nearest::Refused(reason),
         Verdict::Passed => {
@@ -295,6 +310,7 @@ pub fn find_nearest_vertex(
 // The triangle around a direction, among those of its nearest vertex.
 pub fn locate(
     positions: &[f64],
+    settings: Settings,
     side: u32,
     cell_starts: &[u32],
     cell_ids: &[u16],
@@ -302,10 +318,22 @@ pub fn locate(
     triples: &[u16],
     direction: Vector3,
 ) -> Located
-    ensures { λ r. ⌜ r ≡ locate (lentGrid side (now («cell_starts» .entry)) (now («cell_ids» .entry)) (now («triangle_starts» .entry)) (now (triples .entry))) (now (positions .entry)) direction ⌝ }
+    ensures { λ r. ⌜ r ≡ locate (lentGrid settings side (now («cell_starts» .entry)) (now («cell_ids» .entry)) (now («triangle_starts» .entry)) (now (triples .entry))) (now (positions .entry)) direction ⌝ }
 {
     let g = side as usize;
-    let verdict = check_grid(positions, g, cell_starts, triangle_starts, direction);
+    let usual = usual_passes(positions, settings, g, cell_starts, triangle_starts);
+    let verdict = if usual & direction.is_admissible() {
+        Verdict::Passed
+    } else {
+        check_grid(
+            positions,
+            settings,
+            g,
+            cell_starts,
+            triangle_starts,
+            direction,
+        )
+    };
     match verdict {
         Verdict::Refused(reason) => Located::Refused(reason),
         Verdict::Passed => {

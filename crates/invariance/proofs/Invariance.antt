@@ -17,6 +17,7 @@ use Rattle.mesh.proofs.Facts.{AdjacencyFacts, MeshFacts, mesh-facts, mesh-passe
 use Rattle.renumber.specs.Renumber.{Call, entriesPerVertexFit, longestLength, renumberedMesh}
 use Rattle.renumber.proofs.RenumberedMesh.{renumbered, renumbered-facts}
 use Rattle.renumber.proofs.RenumberedData.{fit-single, fit-paired, renumbered-data-tail, renumbered-single, renumbered-pair}
+use Rattle.grid.specs.declared.Settings.{Settings}
 use Rattle.grid.specs.Grid.{GridSlices, buildRows}
 use Rattle.grid.proofs.Grid.{cut-build}
 use Rattle.grid.proofs.Room.{same-build-rows}
@@ -60,8 +61,8 @@ renumbered-invariant m values facts mutual-lists p state r AllHave d =
       paired = λ have s v w ls lv lw. rw (d (count m) have .moved (fit-paired (count m))) (renumbered-pair h values s v w ls lv lw);
       data-length = r .data-length;
       tail = λ each have. values-tail m values (facts .adjacency) each p state h (d each have);
-      grids = λ lent lent₁ g g₁ built built₁.
-          rw (cut-build m lent g built, cut-build (renumberedMesh p m) lent₁ g₁ built₁) (same-grids m (renumberedMesh p m) facts facts₁ new mutual-lists);
+      grids = λ settings lent lent₁ g g₁ built built₁.
+          rw (cut-build m settings lent g built, cut-build (renumberedMesh p m) settings lent₁ g₁ built₁) (same-grids m (renumberedMesh p m) settings facts facts₁ new mutual-lists);
     })
 
 -- ---- "Demand 3 is one claim about the whole list of calls, the empty list included, and not a claim for each call."
@@ -74,10 +75,10 @@ renumbering-invariance m values calls rows mutual-lists =
     (λ each have. data-after-calls m values (facts .adjacency) each calls have)
 
 -- Where no list names a vertex twice, the builder needs as much room after the list as before.
-pub renumbering-same-room : (m : Mesh) (values : List Float) (calls : List Call) → meshRows m ≡ Passed → Mutual m → NoRepeat m → (lent : GridSlices)
-    → buildRows (afterCalls (record { mesh = m; values = values }) calls .mesh) lent ≡ buildRows m lent
-renumbering-same-room m values calls rows mutual-lists no-repeat lent =
+pub renumbering-same-room : (m : Mesh) (values : List Float) (calls : List Call) → meshRows m ≡ Passed → Mutual m → NoRepeat m → (settings : Settings) (lent : GridSlices)
+    → buildRows (afterCalls (record { mesh = m; values = values }) calls .mesh) settings lent ≡ buildRows m settings lent
+renumbering-same-room m values calls rows mutual-lists no-repeat settings lent =
     let facts = mesh-facts m rows in
     let r = after-calls m values (facts .adjacency) calls in
     let p = accumulatedPermutation (record { mesh = m; values = values }) calls in
-    rw (r .mesh) (same-build-rows m (renumberedMesh p m) facts (renumbered-facts m facts (r .permutation)) mutual-lists no-repeat (renumbered m (facts .adjacency) (r .permutation)) lent)
+    rw (r .mesh) (same-build-rows m (renumberedMesh p m) settings facts (renumbered-facts m facts (r .permutation)) mutual-lists no-repeat (renumbered m (facts .adjacency) (r .permutation)) lent)

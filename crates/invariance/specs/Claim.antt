@@ -13,6 +13,7 @@ use Rattle.vector.specs.Vector.{normalized}
 use Rattle.mesh.specs.Mesh.{Mesh, count, neighbours}
 use Rattle.mesh.specs.Rows.{meshRows}
 use Rattle.grid.specs.declared.Build.the-variants.{Built}
+use Rattle.grid.specs.declared.Settings.{Settings}
 use Rattle.grid.specs.Cells.{cellCount}
 use Rattle.grid.specs.Grid.{Grid, GridSlices, build, cut}
 use Rattle.grid_query.specs.declared.Nearest.{Nearest}
@@ -78,6 +79,6 @@ pub record Invariant (m : Mesh) (values : List Float) (m₁ : Mesh) (values₁ :
   -- "The tail is as it was."
   pub data-length : length values₁ ≡ length values
   pub tail : (each : ℕ) → AllHave each → drop (length values / (count m * each) * (count m * each)) values₁ ≡ drop (length values / (count m * each) * (count m * each)) values
-  -- Whatever slices the builder was lent, as long as it accepted both.
-  pub grids : (lent lent₁ : GridSlices) (g g₁ : ℕ) → build m lent .answered ≡ Built g → build m₁ lent₁ .answered ≡ Built g₁
-      → SameGrids m m₁ p (cut (count m) g (build m lent .slices)) (cut (count m₁) g₁ (build m₁ lent₁ .slices))
+  -- Whatever slices the builder was lent, as long as it accepted both. "whichever pair is chosen, grids before and after renumbering are built with the same pair" (W-210)
+  pub grids : (settings : Settings) (lent lent₁ : GridSlices) (g g₁ : ℕ) → build m settings lent .answered ≡ Built g → build m₁ settings lent₁ .answered ≡ Built g₁
+      → SameGrids m m₁ p (cut settings (count m) g (build m settings lent .slices)) (cut settings (count m₁) g₁ (build m₁ settings lent₁ .slices))

@@ -19,6 +19,11 @@ pub then-passed : (v next : Verdict) → then v next ≡ Passed → (v ≡ Passe
 then-passed Passed next h = (refl, h)
 then-passed (Refused reason) next h = absurd (refused-not-passed reason h)
 
+-- a row before a chain and further rows is a row before the chain, and then the further rows
+pub row-then : (b : Bool) (reason : Refusal) (v next : Verdict) → row b reason (then v next) ≡ then (row b reason v) next
+row-then true reason v next = refl
+row-then false reason v next = refl
+
 -- an answer that no refusal gives shows that the rows passed
 pub answer-passed : {A : Type 0} (P : A → Type 0) (v : Verdict) (refused : Refusal → A) (accepted : A) → P (answer v refused accepted) → ((reason : Refusal) → P (refused reason) → ⊥) → v ≡ Passed
 answer-passed P Passed refused accepted h never = refl

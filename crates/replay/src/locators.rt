@@ -1,6 +1,8 @@
 // Both locators on the lattice of a frequency.
 use crate::meshes;
 use crate::places::F64_BEFORE;
+use crate::places::FACTOR;
+use crate::places::MARGIN;
 use crate::places::U16_BEFORE;
 use crate::places::U32_BEFORE;
 use crate::queries;
@@ -99,6 +101,8 @@ fn on_grid(
         cell_ids,
         triangle_starts,
         triples,
+        FACTOR,
+        MARGIN,
     );
     replay_records(
         text,

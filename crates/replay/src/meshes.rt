@@ -1,5 +1,7 @@
 // Any meshes, also such as some row refuses: walk and grid.
 use crate::places::F64_BEFORE;
+use crate::places::FACTOR;
+use crate::places::MARGIN;
 use crate::places::U16_BEFORE;
 use crate::places::U32_BEFORE;
 use c_api::BuildAnswer;
@@ -118,6 +120,8 @@ fn replay_grid(
         cell_ids,
         triangle_starts,
         triples,
+        FACTOR,
+        MARGIN,
     );
     expect_grid(
         text,

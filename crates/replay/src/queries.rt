@@ -1,5 +1,7 @@
 // Queries of any grids and id tables, also such as some row refuses.
 use crate::places::F64_BEFORE;
+use crate::places::FACTOR;
+use crate::places::MARGIN;
 use crate::places::U16_BEFORE;
 use crate::places::U32_BEFORE;
 use c_api::AnalyticAnswer;
@@ -97,6 +99,8 @@ pub fn grid_answers(
 ) -> Cursor {
     let nearest = c_api::koshirga_grid_nearest(
         positions,
+        FACTOR,
+        MARGIN,
         side,
         cell_starts,
         cell_ids,
@@ -106,6 +110,8 @@ pub fn grid_answers(
     let behind_nearest = expect_nearest(text, cursor, nearest);
     let located = c_api::koshirga_grid_locate(
         positions,
+        FACTOR,
+        MARGIN,
         side,
         cell_starts,
         cell_ids,

@@ -1,11 +1,13 @@
 //! Nanoseconds a call on both sides, from the same inputs in the same run.
 
+use crate::grids::greatest_ids;
 use crate::helpers::place;
 use crate::meshes::{Flat, Lattice, Lists};
+use crate::pairs::{self, pair, USUAL};
 use crate::patterns::Random;
 use crate::queries::Slices;
 use icotable_oracle as rust;
-use koshirga::{GridMut, MeshMut, Scratch, Vector3};
+use koshirga::{GridMut, MeshMut, Scratch, Settings, Vector3};
 use std::hint::black_box;
 use std::time::Instant;
 
@@ -20,7 +22,7 @@ const MESH_ROUNDS: usize = 31;
 /// Prints a line for each function.
 pub fn run() {
     println!(
-        "function          Koshirga    Rust  (nanoseconds a call, medians of {ROUNDS} rounds)"
+        "function                    Koshirga    Rust  (nanoseconds a call, medians of {ROUNDS} rounds)"
     );
     print_line(
         "mul_add",
@@ -43,14 +45,16 @@ pub fn run() {
     for frequency in [20, 80] {
         queries(frequency);
     }
-    println!("function          Koshirga    Rust  (microseconds a call, medians of {MESH_ROUNDS} rounds)");
+    println!("function                    Koshirga    Rust  (microseconds a call, medians of {MESH_ROUNDS} rounds)");
     for frequency in [20, 80] {
         builders(frequency);
+        grid_at_the_ends(frequency);
     }
     meshes(80);
 }
 
-/// Both locators and the nearest query of a grid.
+/// Both locators and the nearest query of a grid at the usual pair; the nearest query also where the
+/// factor is the next double above 1.2. The grid is the same for it, and its side takes a root.
 fn queries(frequency: usize) {
     let lattice = Lattice::new(frequency);
     let analytic = rust::AnalyticLattice::new(frequency);
@@ -73,6 +77,19 @@ fn queries(frequency: usize) {
         |&(v, _)| ours.find_nearest_vertex(v),
         |(_, v)| grid.find_nearest_vertex(v),
     );
+    let factor = USUAL.factor.next_up();
+    let count = lattice.lists.vertices.len();
+    assert_eq!(pairs::side(count, factor), grid.grid_size());
+    let next_factor = koshirga::Grid {
+        settings: pair(factor, USUAL.margin),
+        ..ours
+    };
+    print_line(
+        &format!("grid nearest {frequency}, 1.2 + ulp"),
+        vectors,
+        |&(v, _)| next_factor.find_nearest_vertex(v),
+        |(_, v)| grid.find_nearest_vertex(v),
+    );
     print_line(
         &format!("grid locate {frequency}"),
         vectors,
@@ -81,7 +98,8 @@ fn queries(frequency: usize) {
     );
 }
 
-/// The lattice, and the grid of it. The Rust allocates what it returns; Koshirga fills lent slices.
+/// The lattice, and the grid of it at the usual pair. The Rust allocates what it returns; Koshirga
+/// fills lent slices.
 fn builders(frequency: usize) {
     let lists = Lattice::new(frequency).lists;
     let flat = lists.flat();
@@ -110,7 +128,7 @@ fn builders(frequency: usize) {
                 triangle_starts: &mut triangle_starts,
                 triples: &mut triples,
             };
-            koshirga::build_grid(flat.as_mesh(), grid)
+            koshirga::build_grid(flat.as_mesh(), USUAL, grid)
         }));
         times[3].push(once(|| {
             rust::FaceGrid::new(&lists.vertices, &lists.neighbors)
@@ -119,6 +137,37 @@ fn builders(frequency: usize) {
     let [lattice, rust_lattice, grid, rust_grid] = times.map(median);
     print_times(&format!("lattice {frequency}"), lattice, rust_lattice);
     print_times(&format!("grid {frequency}"), grid, rust_grid);
+}
+
+/// The grid at the least pair and at the greatest, which the Rust has not.
+fn grid_at_the_ends(frequency: usize) {
+    let flat = Lattice::new(frequency).lists.flat();
+    let count = flat.count();
+    for settings in [pair(0.5, 0), pair(4.0, 3)] {
+        let Settings { factor, margin } = settings;
+        let side = pairs::side(count, factor);
+        let mut cell_starts = vec![0; 6 * side * side + 1];
+        let mut cell_ids = vec![0; greatest_ids(count, margin)];
+        let mut triangle_starts = vec![0; count + 1];
+        let mut triples = vec![0; 3 * flat.entries.len()];
+        let times = (0..MESH_ROUNDS).map(|_| {
+            once(|| {
+                let grid = GridMut {
+                    cell_starts: &mut cell_starts,
+                    cell_ids: &mut cell_ids,
+                    triangle_starts: &mut triangle_starts,
+                    triples: &mut triples,
+                };
+                koshirga::build_grid(flat.as_mesh(), settings, grid)
+            })
+        });
+        let name = format!("grid {frequency}, {factor:?} and {margin}");
+        println!(
+            "{name:<26}  {:>8.1}  {:>6}",
+            median(times.collect()),
+            "none"
+        );
+    }
 }
 
 /// The walk, and the renumbering by its order with one value a vertex. The Rust's slices and
@@ -221,7 +270,7 @@ fn print_line<T, R, S>(
 }
 
 fn print_times(name: &str, ours: f64, rust: f64) {
-    println!("{name:<16}  {ours:>8.1}  {rust:>6.1}");
+    println!("{name:<26}  {ours:>8.1}  {rust:>6.1}");
 }
 
 /// Nanoseconds a call.

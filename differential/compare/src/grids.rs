@@ -1,23 +1,37 @@
-//! The grids of all 80 lattices and of random meshes beside the Rust's, and the builder's refusals
-//! beside the rows' text.
+//! The grids of all 80 lattices and of random meshes beside the Rust's at the usual pair, and at
+//! other pairs beside a second reading; the builder's refusals beside the rows' text.
 
 use crate::check::{Check, Judge, Kinds, Rows, Tally};
 use crate::directions::row_9;
 use crate::meshes::{Flat, Lattice, Lists, FREQUENCIES};
+use crate::pairs::{self, kinds_of_pair, pair, settings_row, USUAL};
 use crate::patterns::Random;
 use crate::queries::Slices;
 use crate::rows::{adjacency_row, by_hand, damage, kinds_of_starts, Reason};
 use crate::walk::lists_of;
 use icotable_oracle as rust;
-use koshirga::{GridMut, Vector3};
+use koshirga::{GridMut, Settings, Vector3};
 
 /// Random meshes, and damaged ones.
 const MESHES: usize = 20_000;
+/// Meshes about an axis, the most vertices that one has, and the pairs of each.
+const ABOUT_AN_AXIS: usize = 300;
+const ABOUT_AN_AXIS_COUNT: u64 = 1_000;
+const ABOUT_AN_AXIS_PAIRS: usize = 4;
+/// The most vertices that row 2 lets pass.
+const GREATEST_COUNT: usize = 65_536;
+/// The ends of both ranges.
+const ENDS: [Settings; 4] = [pair(0.5, 0), pair(0.5, 3), pair(4.0, 0), pair(4.0, 3)];
 
 pub fn checks() -> Vec<Check> {
     vec![
         Check::new("80 lattices", lattices),
         Check::new("random meshes", random_meshes),
+        Check::new("80 lattices, other pairs", lattices_at_pairs),
+        Check::new("random meshes, other pairs", random_meshes_at_pairs),
+        Check::new("meshes about an axis", meshes_about_an_axis),
+        Check::new("65,536 vertices", most_vertices),
+        Check::new("pairs by hand", pairs_by_hand),
         Check::new("starts by hand", starts_by_hand),
         Check::new("refusals", refusals),
     ]
@@ -41,14 +55,14 @@ fn before(lengths: [usize; 4]) -> Lent {
     }
 }
 
-fn built(mesh: &Flat, lent: &mut Lent) -> Result<u32, Reason> {
+fn built(mesh: &Flat, settings: Settings, lent: &mut Lent) -> Result<u32, Reason> {
     let grid = GridMut {
         cell_starts: &mut lent.cell_starts,
         cell_ids: &mut lent.cell_ids,
         triangle_starts: &mut lent.triangle_starts,
         triples: &mut lent.triples,
     };
-    koshirga::build_grid(mesh.as_mesh(), grid).map_err(Reason::from)
+    koshirga::build_grid(mesh.as_mesh(), settings, grid).map_err(Reason::from)
 }
 
 fn needed(grid: &Slices) -> [usize; 4] {
@@ -60,7 +74,7 @@ fn needed(grid: &Slices) -> [usize; 4] {
     ]
 }
 
-/// The slices after the Rust's grid was written from the front of each.
+/// The slices after a grid was written from the front of each.
 fn with_grid(mut lent: Lent, grid: &Slices) -> Lent {
     let [a, b, c, d] = needed(grid);
     lent.cell_starts[..a].copy_from_slice(&grid.cell_starts);
@@ -77,15 +91,105 @@ pub fn rust_grid(lists: &Lists) -> Slices {
     )
 }
 
-fn compare(tally: &mut Tally, name: &str, lists: &Lists, surplus: [usize; 4]) {
-    let grid = rust_grid(lists);
-    let places = needed(&grid);
+/// Row and column of a vertex on each cube face that has d > 0, as they are converted: toward zero
+/// (IEEE 754-2019, 4.3.2), and held at the ends of the signed range.
+fn converted(position: [f64; 3], side: usize) -> impl Iterator<Item = (usize, [i64; 2])> {
+    (0..6).filter_map(move |face| {
+        let (u, w, d) = rust::cube_face_project(position, face);
+        let across = |x: f64| ((x / d).mul_add(0.5, 0.5) * side as f64) as i64;
+        (d > 0.0).then(|| (face, [u, w].map(across)))
+    })
+}
+
+/// The grid at a pair, worked out beside the Rust, which has the usual one fixed. By document 01 and
+/// W-210 a vertex stands, on each of these faces, in the cells whose row and column are at most the
+/// margin from its own; the sums are over whole numbers. Triangles don't depend on the pair: they are
+/// those of the Rust's grid.
+pub fn grid_beside(usual: &Slices, settings: Settings) -> Slices {
+    let side = pairs::side(usual.positions.len() / 3, settings.factor);
+    let margin = i128::from(settings.margin);
+    let near = |at: i64| {
+        let at = i128::from(at);
+        (at - margin..=at + margin).filter(|cell| (0..side as i128).contains(cell))
+    };
+    let mut placed: Vec<(u32, u16)> = Vec::new();
+    for (id, p) in usual.positions.chunks(3).enumerate() {
+        for (face, [row, column]) in converted([p[0], p[1], p[2]], side) {
+            for row in near(row) {
+                for column in near(column) {
+                    let cell = (face * side + row as usize) * side + column as usize;
+                    placed.push((cell as u32, id as u16));
+                }
+            }
+        }
+    }
+    let mut cell_starts = vec![0; 6 * side * side + 1];
+    for &(cell, _) in &placed {
+        cell_starts[cell as usize + 1] += 1;
+    }
+    for cell in 1..cell_starts.len() {
+        cell_starts[cell] += cell_starts[cell - 1];
+    }
+    // The ids come in ascending order.
+    let mut free = cell_starts.clone();
+    let mut cell_ids = vec![0; placed.len()];
+    for (cell, id) in placed {
+        let free = &mut free[cell as usize];
+        cell_ids[*free as usize] = id;
+        *free += 1;
+    }
+    Slices {
+        settings,
+        side: side as u32,
+        cell_starts,
+        cell_ids,
+        ..usual.clone()
+    }
+}
+
+/// Three faces have d > 0 at most, and on each there are 2·margin + 1 rows and columns at most.
+pub fn greatest_ids(count: usize, margin: u32) -> usize {
+    let width = 2 * margin as usize + 1;
+    3 * width * width * count
+}
+
+/// The engine's answer, and whether it is this grid, with so many surplus places, and keeps the bound
+/// of its ids.
+fn outcome(mesh: &Flat, grid: &Slices, surplus: [usize; 4]) -> (Result<u32, Reason>, bool) {
+    let places = needed(grid);
     let lent = before([0, 1, 2, 3].map(|i| places[i] + surplus[i]));
     let mut ours = lent.clone();
-    let answer = built(&lists.flat(), &mut ours);
-    let same = answer == Ok(grid.side) && ours == with_grid(lent, &grid);
-    tally.compare(Judge::Rust, same, || {
-        format!("grid of {name}: {answer:?}, Rust's side {}", grid.side)
+    let answer = built(mesh, grid.settings, &mut ours);
+    let bounded = places[1] <= greatest_ids(mesh.count(), grid.settings.margin);
+    let same = bounded && answer == Ok(grid.side) && ours == with_grid(lent, grid);
+    (answer, same)
+}
+
+/// At the usual pair. What is worked out beside the Rust's grid has to be that grid there.
+fn compare_with_rust(tally: &mut Tally, lists: &Lists, surplus: [usize; 4], name: &str) -> Slices {
+    let grid = rust_grid(lists);
+    let beside = grid_beside(&grid, USUAL) == grid;
+    let (answer, same) = outcome(&lists.flat(), &grid, surplus);
+    tally.compare(Judge::Rust, same && beside, || {
+        let side = grid.side;
+        format!("grid of {name}: {answer:?}, Rust's side {side}, the same beside it: {beside}")
+    });
+    grid
+}
+
+/// At another pair.
+fn compare_beside(
+    tally: &mut Tally,
+    mesh: &Flat,
+    grid: &Slices,
+    surplus: [usize; 4],
+    name: impl Fn() -> String,
+) {
+    let (answer, same) = outcome(mesh, grid, surplus);
+    tally.compare(Judge::Beside, same, || {
+        let Slices { settings, side, .. } = grid;
+        let name = name();
+        format!("grid of {name}, {settings:?}: {answer:?}, side beside the Rust {side}")
     });
 }
 
@@ -93,9 +197,28 @@ fn lattices(tally: &mut Tally) {
     for frequency in FREQUENCIES {
         let lattice = Lattice::new(frequency);
         let name = format!("the lattice of frequency {frequency}");
-        compare(tally, &name, &lattice.lists, [0; 4]);
-        compare(tally, &name, &lattice.lists, [1, 2, 3, 4]);
+        compare_with_rust(tally, &lattice.lists, [0; 4], &name);
+        compare_with_rust(tally, &lattice.lists, [1, 2, 3, 4], &name);
     }
+}
+
+/// Each at the ends of both ranges and at two more pairs.
+fn lattices_at_pairs(tally: &mut Tally) {
+    let mut random = Random::new(83);
+    let mut kinds = Kinds::default();
+    for frequency in FREQUENCIES {
+        let lists = Lattice::new(frequency).lists;
+        let (flat, usual) = (lists.flat(), rust_grid(&lists));
+        let drawn = [0; 2].map(|_| pairs::accepted(&mut random));
+        for settings in [&ENDS[..], &drawn].concat() {
+            kinds.count(&kinds_of_pair(settings));
+            let grid = grid_beside(&usual, settings);
+            compare_beside(tally, &flat, &grid, [0, 1, 2, 3], || {
+                format!("the lattice of frequency {frequency}")
+            });
+        }
+    }
+    kinds.all_reached(tally);
 }
 
 /// Document 01, row 5, read anew.
@@ -116,7 +239,190 @@ fn random_meshes(tally: &mut Tally) {
         let lists = Lists::random(&mut random);
         if !row_5(&lists.flat()) {
             let surplus = [0; 4].map(|_: usize| random.below(3) as usize);
-            compare(tally, &format!("{:?}", lists.neighbors), &lists, surplus);
+            compare_with_rust(tally, &lists, surplus, &format!("{:?}", lists.neighbors));
+        }
+    }
+}
+
+/// Components that put a vertex on an axis or a diagonal, or almost edge-on to a cube face.
+const COMPONENTS: [f64; 8] = [0.0, -0.0, 1.0, -1.0, 1e-30, -1e-30, 1e-300, -1e-300];
+
+/// The converted coordinates beside the first and the last cell that are near it with a margin and no
+/// more, and the ends of the conversion; whether a mesh has them at a pair.
+fn kinds_of_placing(grid: &Slices) -> [(&'static str, bool); 16] {
+    let side = grid.side as usize;
+    let coordinates: Vec<i64> = grid
+        .positions
+        .chunks(3)
+        .flat_map(|p| converted([p[0], p[1], p[2]], side))
+        .flat_map(|(_, coordinates)| coordinates)
+        .collect();
+    let g = side as i64;
+    let any = |coordinate| coordinates.contains(&coordinate);
+    let at = |margin, coordinate| grid.settings.margin == margin && any(coordinate);
+    [
+        ("margin 0: coordinate -1, near none", at(0, -1)),
+        ("margin 1: coordinate -1, near cell 0", at(1, -1)),
+        ("margin 1: coordinate -2, near none", at(1, -2)),
+        ("margin 2: coordinate -2, near cell 0", at(2, -2)),
+        ("margin 2: coordinate -3, near none", at(2, -3)),
+        ("margin 3: coordinate -3, near cell 0", at(3, -3)),
+        ("margin 3: coordinate -4, near none", at(3, -4)),
+        ("margin 0: coordinate g, near none", at(0, g)),
+        ("margin 1: coordinate g, near the last cell", at(1, g)),
+        ("margin 1: coordinate g + 1, near none", at(1, g + 1)),
+        (
+            "margin 2: coordinate g + 1, near the last cell",
+            at(2, g + 1),
+        ),
+        ("margin 2: coordinate g + 2, near none", at(2, g + 2)),
+        (
+            "margin 3: coordinate g + 2, near the last cell",
+            at(3, g + 2),
+        ),
+        ("margin 3: coordinate g + 3, near none", at(3, g + 3)),
+        ("a coordinate held at the least end", any(i64::MIN)),
+        ("a coordinate held at the greatest end", any(i64::MAX)),
+    ]
+}
+
+fn random_meshes_at_pairs(tally: &mut Tally) {
+    let mut random = Random::new(84);
+    let (mut kinds, mut placing) = (Kinds::default(), Kinds::default());
+    for _ in 0..MESHES {
+        let mut lists = Lists::random(&mut random);
+        for _ in 0..random.below(4) {
+            let at = random.below(lists.vertices.len() as u64) as usize;
+            let component = COMPONENTS[random.below(COMPONENTS.len() as u64) as usize];
+            lists.vertices[at][random.below(3) as usize] = component;
+        }
+        let flat = lists.flat();
+        if row_5(&flat) {
+            continue;
+        }
+        let grid = grid_beside(&rust_grid(&lists), pairs::accepted(&mut random));
+        kinds.count(&kinds_of_pair(grid.settings));
+        placing.count(&kinds_of_placing(&grid));
+        let surplus = [0; 4].map(|_: usize| random.below(3) as usize);
+        compare_beside(tally, &flat, &grid, surplus, || format!("{flat:?}"));
+    }
+    kinds.all_reached(tally);
+    placing.all_reached(tally);
+}
+
+/// A ring of vertices, each beside the two before it and the two behind it.
+fn ring(vertices: Vec<[f64; 3]>) -> Lists {
+    let count = vertices.len();
+    let beside = |id: usize, steps: usize| ((id + steps) % count) as u16;
+    Lists {
+        neighbors: (0..count)
+            .map(|id| [1, 2, count - 1, 2 * count - 2].map(|steps| beside(id, steps)))
+            .map(Vec::from)
+            .collect(),
+        vertices,
+    }
+}
+
+/// All vertices about one end of an axis, or in a belt around the axis.
+fn about_an_axis(random: &mut Random) -> Lists {
+    let count = 1 + random.below(ABOUT_AN_AXIS_COUNT) as usize;
+    let axis = random.below(3) as usize;
+    let width = 2f64.powi(-(random.below(12) as i32));
+    let belt = random.below(2) == 0;
+    let end = [1.0, -1.0][random.below(2) as usize];
+    let mut vertex = || {
+        let mut v = [0; 3].map(|_| random.unit() * if belt { 1.0 } else { width });
+        v[axis] = if belt { random.unit() * width } else { end };
+        v
+    };
+    ring((0..count).map(|_| vertex()).collect())
+}
+
+/// What W-210 is for: "all their points around one axis, and a cell then holds too many or none".
+fn meshes_about_an_axis(tally: &mut Tally) {
+    let mut random = Random::new(85);
+    for at in 0..ABOUT_AN_AXIS {
+        let lists = about_an_axis(&mut random);
+        let flat = lists.flat();
+        if row_5(&flat) {
+            continue;
+        }
+        let name = format!("mesh {at} about an axis");
+        let usual = compare_with_rust(tally, &lists, [0; 4], &name);
+        for _ in 0..ABOUT_AN_AXIS_PAIRS {
+            let grid = grid_beside(&usual, pairs::accepted(&mut random));
+            compare_beside(tally, &flat, &grid, [0; 4], || name.clone());
+        }
+    }
+}
+
+/// The most vertices, in all directions, at the ends of both ranges.
+fn most_vertices(tally: &mut Tally) {
+    let mut random = Random::new(86);
+    let mut vertex = || [0; 3].map(|_| random.unit());
+    let lists = ring((0..GREATEST_COUNT).map(|_| vertex()).collect());
+    let name = "65,536 vertices";
+    let usual = compare_with_rust(tally, &lists, [0; 4], name);
+    let flat = lists.flat();
+    for settings in ENDS {
+        let grid = grid_beside(&usual, settings);
+        compare_beside(tally, &flat, &grid, [0; 4], || name.to_string());
+    }
+}
+
+/// Margins and the cells of one vertex (1, 1, 1) at the usual factor, by hand: its coordinates
+/// convert to 2, behind the last row and column of the faces 0, 2 and 4.
+const CELLS_BY_HAND: [(u32, &[usize]); 4] = [
+    (0, &[]),
+    (1, &[3, 11, 19]),
+    (2, &[0, 1, 2, 3, 8, 9, 10, 11, 16, 17, 18, 19]),
+    (3, &[0, 1, 2, 3, 8, 9, 10, 11, 16, 17, 18, 19]),
+];
+
+/// The readings and the engine, both held to what is known by hand.
+fn pairs_by_hand(tally: &mut Tally) {
+    let of_vertex = |x: f64| Lists {
+        vertices: vec![[x, 1.0, 1.0]],
+        neighbors: vec![vec![]],
+    };
+    let lists = of_vertex(1.0);
+    let (mesh, usual) = (lists.flat(), rust_grid(&lists));
+    for (margin, cells) in CELLS_BY_HAND {
+        let settings = pair(1.2, margin);
+        let hand = Slices {
+            settings,
+            side: 2,
+            cell_starts: (0..=24)
+                .map(|at| cells.iter().filter(|&&cell| cell < at).count() as u32)
+                .collect(),
+            cell_ids: vec![0; cells.len()],
+            ..usual.clone()
+        };
+        let beside = grid_beside(&usual, settings) == hand;
+        let (answer, same) = outcome(&mesh, &hand, [0; 4]);
+        tally.compare(Judge::Beside, same && beside, || {
+            format!("cells of (1, 1, 1), margin {margin}: {answer:?}, by hand beside the Rust: {beside}")
+        });
+    }
+    for (settings, row) in pairs::BY_HAND {
+        let row = row.map(Reason::row);
+        // Behind the mesh's rows, and before row 8.
+        for (mesh, places, expected) in [
+            (&mesh, 100, row),
+            (&mesh, 0, row.or(Some(Reason::row(8)))),
+            (&of_vertex(f64::NAN).flat(), 100, Some(Reason::row(5))),
+            (&Flat::default(), 100, Some(Reason::row(2))),
+        ] {
+            let lent = before([places; 4]);
+            let mut ours = lent.clone();
+            let answer = built(mesh, settings, &mut ours);
+            let left = match expected {
+                None => answer == Ok(2),
+                Some(reason) => answer == Err(reason) && ours == lent,
+            };
+            tally.compare(Judge::Rows, left && settings_row(settings) == row, || {
+                format!("grid of {mesh:?}, {settings:?}, {places} places: {answer:?}, by hand {expected:?}")
+            });
         }
     }
 }
@@ -127,7 +433,7 @@ fn starts_by_hand(tally: &mut Tally) {
         let row = mesh_row(&mesh);
         let lent = before([100; 4]);
         let mut ours = lent.clone();
-        let answer = built(&mesh, &mut ours);
+        let answer = built(&mesh, USUAL, &mut ours);
         let same = row == Some(reason) && answer == Err(reason) && ours == lent;
         tally.compare(Judge::Rows, same, || {
             format!("grid of {mesh:?}: {answer:?}, by hand {reason:?}, rows {row:?}")
@@ -135,11 +441,62 @@ fn starts_by_hand(tally: &mut Tally) {
     }
 }
 
-/// Rows 2, 3, 17, 18, 4, 5 and 8 leave all slices as they were. Where no row holds the grid is the
-/// Rust's.
+/// The kinds of pairs and of what they meet, each behind the row that is to refuse it; `short`:
+/// whether the slices are too short for every grid.
+fn kinds_of_refusal(
+    settings: Settings,
+    row: Option<Reason>,
+    short: bool,
+) -> [(&'static str, bool); 14] {
+    let Settings { factor, margin } = settings;
+    let by = |number| row.is_some_and(|reason| reason.number == number);
+    let pair_too = settings_row(settings).is_some();
+    let by_mesh = [2, 3, 17, 18, 4].into_iter().any(by);
+    [
+        (
+            "2, 3, 17, 18 or 4: and a pair out of range",
+            by_mesh && pair_too,
+        ),
+        ("5: and a pair out of range", by(5) && pair_too),
+        (
+            "19: the next double below 0.5",
+            by(19) && factor == 0.5f64.next_down(),
+        ),
+        (
+            "19: the next double above 4.0",
+            by(19) && factor == 4.0f64.next_up(),
+        ),
+        ("19: a zero", by(19) && factor == 0.0),
+        ("19: below zero", by(19) && factor < 0.0),
+        ("19: an infinity", by(19) && factor.is_infinite()),
+        ("19: NaN", by(19) && factor.is_nan()),
+        ("19: and a margin above 3", by(19) && margin > 3),
+        ("19: and slices too short", by(19) && short),
+        ("20: margin 4", by(20) && margin == 4),
+        ("20: the greatest margin", by(20) && margin == u32::MAX),
+        ("20: and slices too short", by(20) && short),
+        (
+            "8: at another pair than the usual",
+            by(8) && settings != USUAL,
+        ),
+    ]
+}
+
+/// Enough places for the grid of a mesh at every pair.
+fn enough(usual: &Slices) -> [usize; 4] {
+    let count = usual.positions.len() / 3;
+    let side = pairs::side(count, 4.0);
+    let [_, _, triangle_starts, triples] = needed(usual);
+    let cell_ids = greatest_ids(count, 3);
+    [6 * side * side + 1, cell_ids, triangle_starts, triples]
+}
+
+/// Rows 2, 3, 17, 18, 4, 5, 19, 20 and 8 leave all slices as they were. Where no row holds the grid
+/// is the Rust's, and at another pair than the usual what is worked out beside it.
 fn refusals(tally: &mut Tally) {
     let mut random = Random::new(82);
-    let (mut rows, mut kinds) = (Rows::default(), Kinds::default());
+    let mut rows = Rows::default();
+    let (mut starts, mut kinds) = (Kinds::default(), Kinds::default());
     for _ in 0..MESHES {
         let mut flat = Lists::random(&mut random).flat();
         for _ in 0..random.below(3) {
@@ -149,8 +506,13 @@ fn refusals(tally: &mut Tally) {
             let at = random.below(flat.positions.len() as u64) as usize;
             flat.positions[at] = [f64::NAN, f64::INFINITY, 1e7, -2e6][random.below(4) as usize];
         }
+        let settings = match random.below(4) {
+            0 | 1 => USUAL,
+            2 => pairs::accepted(&mut random),
+            _ => pairs::refused(&mut random),
+        };
         let row = mesh_row(&flat);
-        let grid = row.is_none().then(|| {
+        let usual = row.is_none().then(|| {
             rust_grid(&Lists {
                 vertices: flat
                     .positions
@@ -160,26 +522,46 @@ fn refusals(tally: &mut Tally) {
                 neighbors: lists_of(&flat),
             })
         });
-        let places = grid.as_ref().map_or([40; 4], needed);
+        let row = row.or(settings_row(settings));
+        let places = usual.as_ref().map_or([40; 4], enough);
+        let judge = if settings == USUAL {
+            Judge::Rust
+        } else {
+            Judge::Beside
+        };
+        let grid = usual.filter(|_| row.is_none()).map(|usual| match judge {
+            Judge::Rust => usual,
+            _ => grid_beside(&usual, settings),
+        });
+        let places = grid.as_ref().map_or(places, needed);
+        // A refused call may have no places at all.
         let short = random.below(8) as usize;
-        let lengths = [0, 1, 2, 3].map(|i| places[i].saturating_sub(usize::from(short == i)));
+        let lengths = match row {
+            None => [0, 1, 2, 3].map(|i| places[i].saturating_sub(usize::from(short == i))),
+            Some(_) if short < 4 => [0; 4],
+            Some(_) => places,
+        };
         let row = row.or((lengths != places).then_some(Reason::row(8)));
         let lent = before(lengths);
         let mut ours = lent.clone();
-        let answer = built(&flat, &mut ours);
+        let answer = built(&flat, settings, &mut ours);
         rows.count(row);
-        kinds.count(&kinds_of_starts(&flat, row));
+        starts.count(&kinds_of_starts(&flat, row));
+        kinds.count(&kinds_of_refusal(settings, row, lengths == [0; 4]));
         let (judge, same) = match (row, &grid) {
             (None, Some(grid)) => (
-                Judge::Rust,
+                judge,
                 answer == Ok(grid.side) && ours == with_grid(lent, grid),
             ),
             _ => (Judge::Rows, answer.err() == row && ours == lent),
         };
         tally.compare(judge, same, || {
-            format!("grid of {flat:?} in {lengths:?} places: {answer:?}, row {row:?}")
+            format!(
+                "grid of {flat:?}, {settings:?}, in {lengths:?} places: {answer:?}, row {row:?}"
+            )
         });
     }
-    rows.all_reached(tally, &[2, 3, 17, 18, 4, 5, 8]);
+    rows.all_reached(tally, &[2, 3, 17, 18, 4, 5, 19, 20, 8]);
+    starts.all_reached(tally);
     kinds.all_reached(tally);
 }

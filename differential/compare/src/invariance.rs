@@ -1,13 +1,15 @@
 //! Demand 3's statement, executed: lists of renumbering calls, refused ones among them, on lattices
-//! of the oracle, with both grids built and queried by the engine.
+//! of the oracle, with both grids built with the same pair and queried by the engine.
 
-use crate::check::{Check, Judge, Tally};
+use crate::check::{Check, Judge, Kinds, Tally};
 use crate::directions::{rust_of, Directions};
+use crate::grids::greatest_ids;
 use crate::meshes::{permutation, Flat, Lattice, Lists};
+use crate::pairs::{self, kinds_of_pair, USUAL};
 use crate::patterns::Random;
+use crate::queries::cell_of;
 use crate::walk::lists_of;
-use icotable_oracle as rust;
-use koshirga::{Grid, GridMut, MeshMut, Refusal, Scratch, Vector3};
+use koshirga::{Grid, GridMut, MeshMut, Refusal, Scratch, Settings, Vector3};
 
 /// Lists of calls for each frequency, and directions for each list.
 const LISTS: usize = 12;
@@ -91,6 +93,7 @@ impl Call {
 
 /// The engine's grid of a mesh, cut to a grid's lengths.
 struct Built {
+    settings: Settings,
     side: u32,
     cell_starts: Vec<u32>,
     cell_ids: Vec<u16>,
@@ -99,10 +102,11 @@ struct Built {
 }
 
 impl Built {
-    fn new(mesh: &Flat) -> Result<Self, u32> {
+    fn new(mesh: &Flat, settings: Settings) -> Result<Self, u32> {
         let count = mesh.count();
-        let mut cell_starts = vec![0; 6 * 126 * 126 + 1];
-        let mut cell_ids = vec![0; 27 * count];
+        let side = pairs::side(count, settings.factor);
+        let mut cell_starts = vec![0; 6 * side * side + 1];
+        let mut cell_ids = vec![0; greatest_ids(count, settings.margin)];
         let mut triangle_starts = vec![0; count + 1];
         let mut triples = vec![0; 3 * mesh.entries.len()];
         let lent = GridMut {
@@ -111,11 +115,13 @@ impl Built {
             triangle_starts: &mut triangle_starts,
             triples: &mut triples,
         };
-        let side = koshirga::build_grid(mesh.as_mesh(), lent).map_err(Refusal::number)?;
+        let answer = koshirga::build_grid(mesh.as_mesh(), settings, lent);
+        let side = answer.map_err(Refusal::number)?;
         cell_starts.truncate(6 * (side * side) as usize + 1);
         cell_ids.truncate(cell_starts[cell_starts.len() - 1] as usize);
         triples.truncate(3 * triangle_starts[count] as usize);
         Ok(Built {
+            settings,
             side,
             cell_starts,
             cell_ids,
@@ -143,6 +149,7 @@ impl Built {
     fn as_grid<'a>(&'a self, mesh: &'a Flat) -> Grid<'a> {
         Grid {
             positions: &mesh.positions,
+            settings: self.settings,
             side: self.side,
             cell_starts: &self.cell_starts,
             cell_ids: &self.cell_ids,
@@ -215,15 +222,25 @@ fn at_distance(mesh: &Flat, cell: &[u16], unit: Vector3, distance: f64) -> Vec<u
 
 fn calls(tally: &mut Tally, form: usize, frequencies: &[usize]) {
     let mut random = Random::new(90 + form as u64);
+    let mut kinds = Kinds::default();
     for &frequency in frequencies {
         let lists = Lattice::new(frequency).lists;
         for list in 0..LISTS {
-            one_list(tally, &mut random, &lists, form, list);
+            one_list(tally, &mut kinds, &mut random, &lists, form, list);
         }
     }
+    kinds.all_reached(tally);
 }
 
-fn one_list(tally: &mut Tally, random: &mut Random, lists: &Lists, form: usize, length: usize) {
+/// One list of three is at the usual pair. The kinds are counted by lists.
+fn one_list(
+    tally: &mut Tally,
+    kinds: &mut Kinds,
+    random: &mut Random,
+    lists: &Lists,
+    form: usize,
+    length: usize,
+) {
     let mesh = lists.flat();
     let count = mesh.count();
     let slab = if form == 1 { count } else { count * count };
@@ -241,13 +258,18 @@ fn one_list(tally: &mut Tally, random: &mut Random, lists: &Lists, form: usize, 
                 .for_each(|id| *id = call.permutation[*id as usize]);
         }
     }
-    let name = || format!("{length} calls on {count} vertices, {places} numbers");
+    let settings = match random.below(3) {
+        0 => USUAL,
+        _ => pairs::accepted(random),
+    };
+    let name = || format!("{length} calls on {count} vertices, {places} numbers, {settings:?}");
     tally.compare(
         Judge::Engine,
         state_moved(&before, &after, &p, form),
         || format!("mesh and data after {}", name()),
     );
-    let (Ok(grid), Ok(grid_after)) = (Built::new(&before.mesh), Built::new(&after.mesh)) else {
+    let built = |state: &State| Built::new(&state.mesh, settings);
+    let (Ok(grid), Ok(grid_after)) = (built(&before), built(&after)) else {
         return tally.compare(Judge::Engine, false, || {
             format!("a grid was refused after {}", name())
         });
@@ -255,17 +277,19 @@ fn one_list(tally: &mut Tally, random: &mut Random, lists: &Lists, form: usize, 
     tally.compare(Judge::Engine, grids_moved(&grid, &grid_after, &p), || {
         format!("grids after {}", name())
     });
-    let cells = rust::FaceGrid::new(&lists.vertices, &lists.neighbors);
     let mut directions = Directions::new(random.bits(), lists);
+    let (mut answered, mut empty) = (false, false);
     for _ in 0..DIRECTIONS {
         let v = directions.direction();
         let first = grid.as_grid(&before.mesh).find_nearest_vertex(v);
         let second = grid_after.as_grid(&after.mesh).find_nearest_vertex(v);
+        answered |= first.is_ok();
+        empty |= first.is_err_and(|refusal| refusal.number() == 11);
         let same = match (first, second) {
             (Err(x), Err(y)) => x == y,
             (Ok(x), Ok(y)) => {
                 let unit = v.normalize();
-                let cell = cells.cell_index(&rust_of(unit));
+                let cell = cell_of(&rust_of(unit), grid.side as usize);
                 let old = at_distance(&before.mesh, grid.cell(cell), unit, x.distance);
                 let new = at_distance(&after.mesh, grid_after.cell(cell), unit, y.distance);
                 let alone = old.len() == 1;
@@ -282,4 +306,9 @@ fn one_list(tally: &mut Tally, random: &mut Random, lists: &Lists, form: usize, 
             format!("{v:?} after {}: {first:?}, {second:?}", name())
         });
     }
+    let of_queries = [
+        ("a nearest query is answered", answered),
+        ("a nearest query meets an empty cell", empty),
+    ];
+    kinds.count(&[&kinds_of_pair(settings)[..], &of_queries].concat());
 }

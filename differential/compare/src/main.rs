@@ -18,6 +18,7 @@ mod invariance;
 mod lattices;
 mod meshes;
 mod operands;
+mod pairs;
 mod patterns;
 mod queries;
 mod record;

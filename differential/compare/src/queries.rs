@@ -1,33 +1,48 @@
-//! Grid queries beside the Rust's, on the oracle's grids of all 80 lattices; and damaged grids
-//! beside a reading of document 01's checks.
+//! Grid queries beside the Rust's, on the oracle's grids of all 80 lattices; grids of other pairs and
+//! damaged ones beside a reading of document 01 with W-209 and W-210.
 
 use crate::analytic::{judge_of, same_weights};
 use crate::check::{same, Check, Judge, Kinds, Rows, Tally};
 use crate::directions::{row_9, rust_of, Directions};
+use crate::grids::{grid_beside, rust_grid};
 use crate::meshes::{Lattice, Lists, FREQUENCIES};
+use crate::pairs::{self, kinds_of_pair, pair, settings_row, USUAL};
 use crate::patterns::Random;
 use crate::rows::Reason;
 use crate::weights::least_by_the_text;
 use icotable_oracle as rust;
-use koshirga::{Located, Nearest, Vector3, Weights};
+use koshirga::{Located, Nearest, Settings, Vector3, Weights};
 
 /// Directions of each frequency.
 const DIRECTIONS: usize = 260_000;
 /// Queries of damaged grids.
 const DAMAGED: usize = 1_000_000;
+/// Frequencies whose grids are built at other pairs, how many pairs each has, and the directions of a
+/// pair.
+const AT_PAIRS: [usize; 9] = [1, 2, 3, 5, 8, 13, 21, 34, 80];
+const PAIRS: usize = 12;
+const PAIR_DIRECTIONS: usize = 10_000;
+/// Changes of a grid's pair, and directions of each.
+const CHANGES: usize = 40;
+const CHANGE_DIRECTIONS: usize = 50;
 
 pub fn checks() -> Vec<Check> {
     vec![
         Check::new("odd frequencies", |tally| directions(tally, 1)),
         Check::new("even frequencies", |tally| directions(tally, 0)),
+        Check::new("other pairs", other_pairs),
+        Check::new("pairs changed after building", changed_pairs),
+        Check::new("pairs by hand", pairs_by_hand),
+        Check::new("sides of all counts", sides),
         Check::new("damaged grids", damaged),
     ]
 }
 
-/// A grid's slices, cut to the lengths that document 01 gives.
-#[derive(Clone)]
+/// A grid's slices, cut to the lengths that document 01 gives, and the pair that it records.
+#[derive(Clone, PartialEq)]
 pub struct Slices {
     pub positions: Vec<f64>,
+    pub settings: Settings,
     pub side: u32,
     pub cell_starts: Vec<u32>,
     pub cell_ids: Vec<u16>,
@@ -40,6 +55,7 @@ impl Slices {
         let faces = grid.adj_faces();
         Slices {
             positions: lists.vertices.concat(),
+            settings: USUAL,
             side: grid.grid_size() as u32,
             cell_starts: grid.vtx_offsets().to_vec(),
             cell_ids: grid.vertex_ids().to_vec(),
@@ -51,6 +67,7 @@ impl Slices {
     pub fn as_grid(&self) -> koshirga::Grid<'_> {
         koshirga::Grid {
             positions: &self.positions,
+            settings: self.settings,
             side: self.side,
             cell_starts: &self.cell_starts,
             cell_ids: &self.cell_ids,
@@ -84,22 +101,26 @@ fn located(face: [usize; 3], [u, v, w]: [f64; 3]) -> Located {
     }
 }
 
+/// Both queries refused by a row that carries no index.
+fn refused_by(number: u32) -> Answers {
+    Answers {
+        nearest: Err(Reason::row(number)),
+        located: Err(Reason::row(number)),
+    }
+}
+
 /// By the Rust's answers; the distance and the count, which it keeps to itself, are worked out
 /// from its grid.
 pub fn rust_answers(slices: &Slices, grid: &rust::FaceGrid, v: Vector3) -> Answers {
-    let refused = |number| Answers {
-        nearest: Err(Reason::row(number)),
-        located: Err(Reason::row(number)),
-    };
     if row_9(v) {
-        return refused(9);
+        return refused_by(9);
     }
     let p = rust_of(v);
     let unit = p.normalize();
     let cell = grid.cell_index(&unit);
     let candidates = grid.vtx_offsets()[cell + 1] - grid.vtx_offsets()[cell];
     if candidates == 0 {
-        return refused(11);
+        return refused_by(11);
     }
     let id = grid.find_nearest_vertex(&p);
     let (face, weights) = grid.locate(&p);
@@ -114,8 +135,7 @@ pub fn rust_answers(slices: &Slices, grid: &rust::FaceGrid, v: Vector3) -> Answe
 }
 
 /// What the engine answers.
-fn our_answers(slices: &Slices, v: Vector3) -> Answers {
-    let grid = slices.as_grid();
+fn our_answers(grid: koshirga::Grid, v: Vector3) -> Answers {
     Answers {
         nearest: grid.find_nearest_vertex(v).map_err(Reason::from),
         located: grid.locate(v).map_err(Reason::from),
@@ -164,19 +184,32 @@ fn compare_with_rust(tally: &mut Tally, ours: &Answers, rust: &Answers, name: im
     }
 }
 
-/// The whole answers are held to the text.
-fn compare_with_text(tally: &mut Tally, ours: &Answers, text: &Answers, name: impl Fn() -> String) {
-    let (nearest, located) = (&ours.nearest, &ours.located);
-    let same_nearest = same_result(nearest, &text.nearest, |x, y| {
+/// Whether the nearest queries are alike in everything, and whether the locations are.
+fn same_answers(x: &Answers, y: &Answers) -> [bool; 2] {
+    let nearest = same_result(&x.nearest, &y.nearest, |x, y| {
         x.id == y.id && same_measures(x, y)
     });
-    tally.compare(Judge::Rows, same_nearest, || {
-        format!("nearest, {}: {nearest:?}, text {:?}", name(), text.nearest)
-    });
-    let same_located = same_result(located, &text.located, |x, y| {
+    let located = same_result(&x.located, &y.located, |x, y| {
         same_triangle(x, y) && same(x.least, y.least)
     });
-    tally.compare(Judge::Rows, same_located, || {
+    [nearest, located]
+}
+
+/// The whole answers are held to the text: a refusal to its row's, an accepted call as it is said.
+fn compare_with_text(
+    tally: &mut Tally,
+    accepted: Judge,
+    ours: &Answers,
+    text: &Answers,
+    name: impl Fn() -> String,
+) {
+    let judge = |accepts: bool| if accepts { accepted } else { Judge::Rows };
+    let (nearest, located) = (&ours.nearest, &ours.located);
+    let [same_nearest, same_located] = same_answers(ours, text);
+    tally.compare(judge(text.nearest.is_ok()), same_nearest, || {
+        format!("nearest, {}: {nearest:?}, text {:?}", name(), text.nearest)
+    });
+    tally.compare(judge(text.located.is_ok()), same_located, || {
         format!("locate, {}: {located:?}, text {:?}", name(), text.located)
     });
 }
@@ -190,7 +223,8 @@ fn directions(tally: &mut Tally, parity: usize) {
         let name = format!("frequency {frequency}");
         for _ in 0..DIRECTIONS {
             let v = inputs.direction();
-            let (ours, rust) = (our_answers(&slices, v), rust_answers(&slices, &grid, v));
+            let ours = our_answers(slices.as_grid(), v);
+            let rust = rust_answers(&slices, &grid, v);
             compare_with_rust(tally, &ours, &rust, || format!("{name}, {v:?}"));
         }
     }
@@ -200,7 +234,8 @@ fn directions(tally: &mut Tally, parity: usize) {
 /// both start lists (3), the direction (9); then in its cell a part that falls or runs past the
 /// ids (3), emptiness (11), an id (4); for a triangle the same at the nearest vertex (3, 4), then
 /// 12." W-209: "A query never returns 17; it tries the part read for falling (18), then for running
-/// past the ids, still 3."
+/// past the ids, still 3." W-210: "Queries and the packing test the recorded pair, with the same two
+/// numbers, before g."
 pub fn answers_by_the_text(slices: &Slices, v: Vector3) -> Answers {
     match nearest_by_the_text(slices, v) {
         Err(reason) => Answers {
@@ -227,18 +262,23 @@ fn cell_by_the_text(slices: &Slices, v: Vector3) -> Result<usize, Reason> {
     let places = slices.positions.len();
     let count = places / 3;
     refuse_where(places == 0 || places % 3 != 0 || count > 65_536, 2)?;
-    let side = ((count as f64 / 6.0).sqrt() * 1.2).ceil().max(2.0) as usize;
+    settings_row(slices.settings).map_or(Ok(()), Err)?;
+    let side = pairs::side(count, slices.settings.factor);
     refuse_where(slices.side as usize != side, 2)?;
     refuse_where(slices.cell_starts.len() != 6 * side * side + 1, 3)?;
     refuse_where(slices.triangle_starts.len() != count + 1, 3)?;
     refuse_where(row_9(v), 9)?;
-    let unit = rust_of(v).normalize();
+    Ok(cell_of(&rust_of(v).normalize(), side))
+}
+
+/// The cell of a normalised direction in a grid of that side.
+pub fn cell_of(unit: &rust::Vector3, side: usize) -> usize {
     let (face, u, w) = rust::cube_project(&[unit.x, unit.y, unit.z]);
     let across = |x: f64| {
         let g = side as f64;
         (x.mul_add(0.5, 0.5) * g).clamp(0.0, g - 1.0) as usize
     };
-    Ok(face * side * side + across(u) * side + across(w))
+    face * side * side + across(u) * side + across(w)
 }
 
 /// The part that is read of a list: from one start to the next, which is the one that falls.
@@ -291,6 +331,210 @@ fn located_by_the_text(slices: &Slices, v: Vector3, nearest: usize) -> Result<Lo
         }
     }
     kept.ok_or(Reason::row(12))
+}
+
+/// Grids of other pairs. At the usual one the text's answers have to be the Rust's.
+fn other_pairs(tally: &mut Tally) {
+    let mut random = Random::new(75);
+    let mut rows = Rows::default();
+    let (mut kinds, mut answered) = (Kinds::default(), Kinds::default());
+    for frequency in AT_PAIRS {
+        let lists = Lattice::new(frequency).lists;
+        let grid = rust::FaceGrid::new(&lists.vertices, &lists.neighbors);
+        let usual = Slices::new(&lists, &grid);
+        let mut inputs = Directions::new(76 + frequency as u64, &lists);
+        for at in 0..=PAIRS {
+            let slices = match at {
+                0 => usual.clone(),
+                _ => grid_beside(&usual, pairs::accepted(&mut random)),
+            };
+            kinds.count(&kinds_of_pair(slices.settings));
+            let name = |v| format!("frequency {frequency}, {:?}, {v:?}", slices.settings);
+            for _ in 0..PAIR_DIRECTIONS {
+                let v = inputs.direction();
+                let ours = our_answers(slices.as_grid(), v);
+                let text = answers_by_the_text(&slices, v);
+                rows.count(text.located.as_ref().err().copied());
+                answered.count(&[("accepted", text.located.is_ok())]);
+                if at == 0 && same_answers(&text, &rust_answers(&slices, &grid, v)) != [true; 2] {
+                    tally.compare(Judge::Beside, false, || {
+                        format!("the text's answer is not the Rust's: {}", name(v))
+                    });
+                    continue;
+                }
+                compare_with_text(tally, Judge::Beside, &ours, &text, || name(v));
+            }
+        }
+    }
+    answered.all_reached(tally);
+    rows.all_reached(tally, &[9, 11]);
+    kinds.all_reached(tally);
+}
+
+/// Another pair that neither row refuses: the next factor, another margin, the usual pair, or any.
+fn changed(random: &mut Random, settings: Settings) -> Settings {
+    let Settings { factor, margin } = settings;
+    loop {
+        let other = match random.below(4) {
+            0 => pair(f64::from_bits(random.near(factor.to_bits(), 1)), margin),
+            1 => pair(factor, random.below(4) as u32),
+            2 => USUAL,
+            _ => pairs::accepted(random),
+        };
+        if other != settings && settings_row(other).is_none() {
+            return other;
+        }
+    }
+}
+
+/// Where the side is that of the pair now recorded, the answer is the one before, whatever pair filled
+/// the cells; where it isn't, row 2 refuses.
+fn changed_pairs(tally: &mut Tally) {
+    let mut random = Random::new(77);
+    let mut kinds = Kinds::default();
+    for frequency in AT_PAIRS {
+        let lists = Lattice::new(frequency).lists;
+        let count = lists.vertices.len();
+        let usual = rust_grid(&lists);
+        let mut inputs = Directions::new(78 + frequency as u64, &lists);
+        for at in 0..PAIRS {
+            let slices = match at {
+                0 => usual.clone(),
+                _ => grid_beside(&usual, pairs::accepted(&mut random)),
+            };
+            for _ in 0..CHANGES {
+                let built = slices.settings;
+                let now = changed(&mut random, built);
+                let grid = koshirga::Grid {
+                    settings: now,
+                    ..slices.as_grid()
+                };
+                let stays = pairs::side(count, now.factor) == slices.side as usize;
+                let other_factor = stays && now.factor != built.factor;
+                kinds.count(&[
+                    ("the same side: the next double", {
+                        let apart = now.factor.to_bits().abs_diff(built.factor.to_bits());
+                        stays && apart == 1
+                    }),
+                    ("the same side: another factor for 1.2", {
+                        other_factor && built.factor == USUAL.factor
+                    }),
+                    ("the same side: 1.2 for another factor", {
+                        other_factor && now.factor == USUAL.factor
+                    }),
+                    ("the same side: another margin alone", {
+                        stays && !other_factor && now.margin != built.margin
+                    }),
+                    ("2: another side", !stays),
+                ]);
+                for _ in 0..CHANGE_DIRECTIONS {
+                    let v = inputs.direction();
+                    let answers = our_answers(grid, v);
+                    let (judge, same) = if stays {
+                        let before = our_answers(slices.as_grid(), v);
+                        (Judge::Engine, same_answers(&answers, &before))
+                    } else {
+                        (Judge::Rows, same_answers(&answers, &refused_by(2)))
+                    };
+                    tally.compare(judge, same == [true; 2], || {
+                        let Answers { nearest, located } = &answers;
+                        format!("frequency {frequency}, {built:?} changed to {now:?}, {v:?}: {nearest:?}, {located:?}")
+                    });
+                }
+            }
+        }
+    }
+    kinds.all_reached(tally);
+}
+
+/// The text's reading and the engine, both held to what is known by hand, on the grid of one vertex
+/// (1, 1, 1) that the usual pair fills: at every pair in range its side is 2.
+fn pairs_by_hand(tally: &mut Tally) {
+    let usual = rust_grid(&Lists {
+        vertices: vec![[1.0; 3]],
+        neighbors: vec![vec![]],
+    });
+    let v = Vector3::new(1.0, 1.0, 1.0);
+    for (settings, row) in pairs::BY_HAND {
+        let whole = Slices {
+            settings,
+            ..usual.clone()
+        };
+        let (mut no_vertex, mut other_side, mut short) =
+            (whole.clone(), whole.clone(), whole.clone());
+        no_vertex.positions.clear();
+        other_side.side = 3;
+        short.cell_starts.clear();
+        // The vertex is found, but there is no triangle.
+        for (slices, nearest, located) in [
+            (no_vertex, Some(2), Some(2)),
+            (other_side, row.or(Some(2)), row.or(Some(2))),
+            (short, row.or(Some(3)), row.or(Some(3))),
+            (whole, row, row.or(Some(12))),
+        ] {
+            let numbers = |answers: &Answers| {
+                [
+                    answers.nearest.as_ref().err().map(|reason| reason.number),
+                    answers.located.as_ref().err().map(|reason| reason.number),
+                ]
+            };
+            let ours = numbers(&our_answers(slices.as_grid(), v));
+            let text = numbers(&answers_by_the_text(&slices, v));
+            let hand = [nearest, located];
+            tally.compare(Judge::Rows, ours == hand && text == hand, || {
+                format!("{settings:?}: {ours:?}, text {text:?}, by hand {hand:?}")
+            });
+        }
+    }
+}
+
+/// Counts, factors and sides by hand.
+const SIDES_BY_HAND: [(usize, f64, usize); 5] = [
+    (64_002, 0.5, 52),
+    (64_002, 1.2, 124),
+    (64_002, 4.0, 414),
+    (1, 4.0, 2),
+    (65_536, 4.0, 419),
+];
+
+/// The side of every count, seen without a grid: with no start list row 3 refuses where g is the side,
+/// and row 2 where it is one more or less. The sides lie from 2 to 419, and both occur.
+fn sides(tally: &mut Tally) {
+    let positions = vec![1.0; 3 * 65_536];
+    let row = |count: usize, factor: f64, side: usize| {
+        let grid = koshirga::Grid {
+            positions: &positions[..3 * count],
+            settings: pair(factor, 0),
+            side: side as u32,
+            cell_starts: &[],
+            cell_ids: &[],
+            triangle_starts: &[],
+            triples: &[],
+        };
+        let answer = grid.find_nearest_vertex(Vector3::new(1.0, 0.0, 0.0));
+        answer.err().map(|refusal| refusal.number())
+    };
+    for (count, factor, side) in SIDES_BY_HAND {
+        let same = pairs::side(count, factor) == side && row(count, factor, side) == Some(3);
+        tally.compare(Judge::Rows, same, || {
+            format!("side of {count} vertices and factor {factor}, by hand {side}")
+        });
+    }
+    let mut random = Random::new(79);
+    let drawn = [0; 9].map(|_| 0.5 + 3.5 * random.unit().abs());
+    let mut kinds = Kinds::default();
+    for factor in [&pairs::FACTORS[..], &drawn].concat() {
+        for count in 1..=65_536 {
+            let side = pairs::side(count, factor);
+            kinds.count(&[("side 2", side == 2), ("side 419", side == 419)]);
+            let rows = [side - 1, side, side + 1].map(|side| row(count, factor, side));
+            let same = (2..=419).contains(&side) && rows == [Some(2), Some(3), Some(2)];
+            tally.compare(Judge::Rows, same, || {
+                format!("{count} vertices, factor {factor:?}, side {side}, one less and one more: {rows:?}")
+            });
+        }
+    }
+    kinds.all_reached(tally);
 }
 
 /// Up to three changes of a slice, the side or a position.
@@ -458,29 +702,73 @@ fn kinds_of_query(slices: &Slices, v: Vector3, answers: &Answers) -> [(&'static 
     ]
 }
 
-/// Each damaged grid is asked for a hundred directions.
+/// What a recorded pair meets, each behind the row that is to refuse it.
+fn kinds_of_recorded_pair(slices: &Slices, answers: &Answers) -> [(&'static str, bool); 7] {
+    let Settings { factor, margin } = slices.settings;
+    let count = slices.positions.len() / 3;
+    let by = |number| matches!(answers.nearest, Err(reason) if reason.number == number);
+    let out_of_range = settings_row(slices.settings).is_some();
+    let wrong_length = slices.triangle_starts.len() != count + 1;
+    let side_of = |factor| slices.side as usize == pairs::side(count, factor);
+    [
+        (
+            "2: the count, and a pair out of range",
+            by(2) && out_of_range,
+        ),
+        ("19: and a margin above 3", by(19) && margin > 3),
+        ("19: and g below 2", by(19) && slices.side < 2),
+        ("20: and g not the side", by(20) && !side_of(factor)),
+        (
+            "19 or 20: and a start list of wrong length",
+            (by(19) || by(20)) && wrong_length,
+        ),
+        (
+            "2: g of the usual factor, not of the recorded one",
+            by(2) && !out_of_range && side_of(1.2) && !side_of(factor),
+        ),
+        (
+            "accepted: another pair than the usual",
+            answers.located.is_ok() && slices.settings != USUAL,
+        ),
+    ]
+}
+
+/// Each damaged grid is asked for a hundred directions. Half of the grids are of the usual pair; in
+/// one of three the recorded pair is changed too.
 fn damaged(tally: &mut Tally) {
     let mut random = Random::new(73);
-    let (mut rows, mut kinds) = (Rows::default(), Kinds::default());
+    let mut rows = Rows::default();
+    let (mut kinds, mut pair_kinds) = (Kinds::default(), Kinds::default());
     for frequency in 1..=3 {
         let lists = Lattice::new(frequency).lists;
-        let grid = rust::FaceGrid::new(&lists.vertices, &lists.neighbors);
-        let whole = Slices::new(&lists, &grid);
+        let usual = rust_grid(&lists);
+        let others = [0; PAIRS].map(|_| grid_beside(&usual, pairs::accepted(&mut random)));
         let mut inputs = Directions::new(74, &lists);
         for at in 0..DAMAGED / 300 {
-            let mut slices = whole.clone();
+            let mut slices = match random.below(2) {
+                0 => usual.clone(),
+                _ => others[random.below(PAIRS as u64) as usize].clone(),
+            };
             damage(&mut random, &mut slices);
+            match random.below(12) {
+                0 => slices.settings = pairs::accepted(&mut random),
+                1..=3 => slices.settings = pairs::refused(&mut random),
+                _ => (),
+            }
             let name = format!("damaged grid {at} of frequency {frequency}");
             for _ in 0..100 {
                 let v = inputs.direction();
                 let answers = answers_by_the_text(&slices, v);
                 rows.count(answers.located.as_ref().err().copied());
                 kinds.count(&kinds_of_query(&slices, v, &answers));
-                let ours = our_answers(&slices, v);
-                compare_with_text(tally, &ours, &answers, || format!("{name}, {v:?}"));
+                pair_kinds.count(&kinds_of_recorded_pair(&slices, &answers));
+                let ours = our_answers(slices.as_grid(), v);
+                let name = || format!("{name}, {:?}, {v:?}", slices.settings);
+                compare_with_text(tally, Judge::Rows, &ours, &answers, name);
             }
         }
     }
-    rows.all_reached(tally, &[2, 3, 9, 18, 11, 4, 12]);
+    rows.all_reached(tally, &[2, 19, 20, 3, 9, 18, 11, 4, 12]);
     kinds.all_reached(tally);
+    pair_kinds.all_reached(tally);
 }

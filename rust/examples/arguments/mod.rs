@@ -1,4 +1,4 @@
-//! The arguments of both examples: `[X Y Z [FREQUENCY]]`.
+//! The arguments of both examples: `[X Y Z [FREQUENCY]]`, behind which an example may take more.
 
 use koshirga::Vector3;
 use std::process::exit;
@@ -10,17 +10,21 @@ pub struct Arguments {
     pub frequency: u32,
 }
 
-/// The arguments, or those of the example where there are none. Numbers that the engine refuses
-/// are left to it.
-pub fn read(example: &str, frequency: u32) -> Arguments {
+/// What `parse` makes of the arguments. Numbers that the engine refuses are left to it.
+pub fn read<T>(
+    example: &str,
+    usage: &str,
+    parse: impl FnOnce(&[String]) -> Result<T, String>,
+) -> T {
     let given: Vec<String> = std::env::args().skip(1).collect();
-    parse(&given, frequency).unwrap_or_else(|message| {
-        eprintln!("{example}: {message}\nusage: {example} [X Y Z [FREQUENCY]]");
+    parse(&given).unwrap_or_else(|message| {
+        eprintln!("{example}: {message}\nusage: {example} {usage}");
         exit(2)
     })
 }
 
-fn parse(given: &[String], frequency: u32) -> Result<Arguments, String> {
+/// The arguments, or those of the example where there are none.
+pub fn parse(given: &[String], frequency: u32) -> Result<Arguments, String> {
     let (direction, frequency) = match given {
         [] => (DIRECTION, frequency),
         [x, y, z] => (vector(x, y, z)?, frequency),
@@ -37,6 +41,6 @@ fn vector(x: &str, y: &str, z: &str) -> Result<Vector3, String> {
     Ok(Vector3::new(number(x)?, number(y)?, number(z)?))
 }
 
-fn number<T: std::str::FromStr>(text: &str) -> Result<T, String> {
+pub fn number<T: std::str::FromStr>(text: &str) -> Result<T, String> {
     text.parse().map_err(|_| format!("{text:?} is no number"))
 }

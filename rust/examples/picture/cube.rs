@@ -58,13 +58,14 @@ impl Cell {
     }
 
     /// Around all places whose vertices are candidates: those of the cell's surroundings.
-    pub fn surroundings(&self) -> Vec<Vector3> {
+    pub fn surroundings(&self, margin: u32) -> Vec<Vector3> {
+        let margin = i64::from(margin);
         // A place is cut toward zero, so index 0 takes the places from -1 to 1, and one below it
         // those from -2 to -1.
         let low = |index: i64| if index <= 0 { index - 1 } else { index };
         self.around(
-            [low(self.ci - 1), self.ci + 2],
-            [low(self.cj - 1), self.cj + 2],
+            [low(self.ci - margin), self.ci + margin + 1],
+            [low(self.cj - margin), self.cj + margin + 1],
         )
     }
 
@@ -146,10 +147,14 @@ const TOP: f64 = 128.0;
 const FACE: f64 = 142.0;
 const ACROSS: f64 = FACE + 7.0;
 const DOWN: f64 = FACE + 22.0;
-/// Legends with shades of this width and above number each, and others every second one.
+/// The legend numbers each shade, or every second, fifth and so on, so that they stand at least so
+/// far apart.
 const TICKS: f64 = 15.0;
 /// Cells of this size and above show their number.
 const NUMBERED: f64 = 13.0;
+/// What a digit needs where a number has more than two: in the legend, and in a cell.
+const TICK_DIGIT: f64 = 7.0;
+const CELL_DIGIT: f64 = 5.5;
 
 impl Place {
     fn corner(&self) -> Point {
@@ -196,7 +201,7 @@ pub fn draw(scene: &Scene, picture: &mut Picture) {
         picture.cells(cells, &shade(count, most));
     }
     let cell_size = FACE / side as f64;
-    if cell_size >= NUMBERED {
+    if cell_size >= NUMBERED.max(CELL_DIGIT * digits(most)) {
         let size = if cell_size >= 24.0 {
             "count wide"
         } else {
@@ -229,9 +234,13 @@ pub fn draw(scene: &Scene, picture: &mut Picture) {
         picture.circle(x + width / 2.0, y + height / 2.0, 8.0, "cell");
     }
     draw_legend(&counts, most, picture);
+    let placed = match grid.settings.margin {
+        0 => "one cell".to_string(),
+        margin => format!("{0} by {0} cells", 2 * margin + 1),
+    };
     let explanation = [
         "A vertex is placed on each face that it is in",
-        "front of, in 3 by 3 cells there. A query",
+        &format!("front of, in {placed} there. A query"),
         "compares the ids of its direction's cell.",
     ];
     for (line, text) in explanation.iter().enumerate() {
@@ -250,6 +259,12 @@ fn draw_legend(counts: &[usize], most: usize, picture: &mut Picture) {
     let (left, width) = (LEFT + 2.0 * ACROSS, 2.0 * ACROSS - 7.0);
     let (base, tallest) = (TOP + 96.0, 66.0);
     let step = width / (most + 1) as f64;
+    let gap = (step / 4.0).min(1.0);
+    let apart = TICKS.max(TICK_DIGIT * digits(most));
+    let mut strides = [1, 2, 5, 10, 20, 50, 100, 200, 500].into_iter();
+    let stride = strides
+        .find(|&stride| stride as f64 * step >= apart)
+        .unwrap_or(1000);
     let cells_with = |count| counts.iter().filter(|&&c| c == count).count();
     let commonest = (0..=most).map(cells_with).max().unwrap_or(0).max(1);
     picture.text(
@@ -263,13 +278,13 @@ fn draw_legend(counts: &[usize], most: usize, picture: &mut Picture) {
         let x = left + step * count as f64;
         let cells = cells_with(count);
         let height = tallest * cells as f64 / commonest as f64;
-        picture.rectangle(x + 1.0, base - height, step - 2.0, height, "bar");
+        picture.rectangle(x + gap, base - height, step - 2.0 * gap, height, "bar");
         picture.cells(
-            [[x + 0.5, base + 2.0, step - 1.0, 14.0]].into_iter(),
+            [[x + gap / 2.0, base + 2.0, step - gap, 14.0]].into_iter(),
             &shade(count, most),
         );
         let middle = x + step / 2.0;
-        if step >= TICKS || count % 2 == 0 {
+        if count % stride == 0 {
             let y = base + 29.0;
             picture.text(middle, y, "tick", Anchor::Middle, &count.to_string());
         }
@@ -278,6 +293,11 @@ fn draw_legend(counts: &[usize], most: usize, picture: &mut Picture) {
             picture.text(middle, y, "tick", Anchor::Middle, &cells.to_string());
         }
     }
+}
+
+/// How many digits a number has.
+fn digits(number: usize) -> f64 {
+    number.to_string().len() as f64
 }
 
 /// From a light yellow over green to a dark blue.

@@ -2,8 +2,8 @@
 //! mesh seen along the direction, the cells of its grid with their numbers of ids, and the triangle
 //! magnified.
 //!
-//! Usage: `picture [X Y Z [FREQUENCY]] > picture.svg`. Exit status: 0; 1 where the engine refuses;
-//! 2 where the arguments can't be read.
+//! Usage: `picture [X Y Z [FREQUENCY [FACTOR MARGIN]]] > picture.svg`. Exit status: 0; 1 where the
+//! engine refuses; 2 where the arguments can't be read.
 
 #[path = "../arguments/mod.rs"]
 mod arguments;
@@ -13,7 +13,7 @@ mod svg;
 
 use arguments::Arguments;
 use cube::Cell;
-use koshirga::{FaceGrid, LatticeGeometry, Located, MeshData, Nearest, Refusal, Vector3};
+use koshirga::{FaceGrid, LatticeGeometry, Located, MeshData, Nearest, Refusal, Settings, Vector3};
 use std::process::ExitCode;
 use svg::{Anchor, Picture};
 
@@ -36,8 +36,9 @@ impl Scene<'_> {
 }
 
 fn main() -> ExitCode {
-    let arguments = arguments::read("picture", 6);
-    match picture(&arguments) {
+    let usage = "[X Y Z [FREQUENCY [FACTOR MARGIN]]]";
+    let (arguments, settings) = arguments::read("picture", usage, parse);
+    match picture(&arguments, settings) {
         Ok(svg) => {
             print!("{svg}");
             ExitCode::SUCCESS
@@ -49,13 +50,25 @@ fn main() -> ExitCode {
     }
 }
 
-fn picture(arguments: &Arguments) -> Result<String, Refusal> {
+/// The direction and the frequency, and behind them the grid's pair, or the usual one.
+fn parse(given: &[String]) -> Result<(Arguments, Settings), String> {
+    let (given, settings) = match given {
+        [others @ .., factor, margin] if others.len() == 4 => {
+            let (factor, margin) = (arguments::number(factor)?, arguments::number(margin)?);
+            (others, Settings { factor, margin })
+        }
+        _ => (given, Settings::default()),
+    };
+    Ok((arguments::parse(given, 6)?, settings))
+}
+
+fn picture(arguments: &Arguments, settings: Settings) -> Result<String, Refusal> {
     let Arguments {
         direction,
         frequency,
     } = *arguments;
     let lattice = LatticeGeometry::new(frequency)?;
-    let grid = FaceGrid::new(lattice.mesh.as_mesh())?;
+    let grid = FaceGrid::with_settings(lattice.mesh.as_mesh(), settings)?;
     let scene = Scene {
         frequency,
         direction,
@@ -91,6 +104,9 @@ fn draw_title(scene: &Scene, picture: &mut Picture) {
         grid.cell_ids.len()
     );
     picture.text(40.0, 46.0, "title", Anchor::Start, &title);
+    let Settings { factor, margin } = grid.settings;
+    let pair = format!("The grid is built with factor {factor} and margin {margin}.");
+    picture.text(40.0, 69.0, "label", Anchor::Start, &pair);
 }
 
 /// The answers in numbers, below the mesh.

@@ -79,7 +79,8 @@ impl View {
                 picture.circle(x, y, sizes.vertex, "vertex");
             }
         }
-        picture.polyline(&self.outline(&scene.cell.surroundings()), "placed");
+        let margin = scene.grid.as_grid().settings.margin;
+        picture.polyline(&self.outline(&scene.cell.surroundings(margin)), "placed");
         picture.polyline(&self.outline(&scene.cell.outline()), "cell");
         for &id in scene.candidates() {
             let (x, y) = at(id.into());
@@ -129,6 +130,8 @@ pub fn draw_globe(scene: &Scene, picture: &mut Picture) {
 const PANEL: [f64; 4] = [740.0, 654.0, 590.0, 306.0];
 /// The triangle's longest side there, where all candidates find room.
 const SIDE: f64 = 104.0;
+/// The least that it shrinks to for candidates far away, which then may lie outside.
+const LEAST_SIDE: f64 = 48.0;
 /// Room for a candidate's mark and id.
 const MARGIN: f64 = 28.0;
 
@@ -146,7 +149,9 @@ fn magnification(scene: &Scene) -> f64 {
         let down = (PANEL[3] / 2.0 - MARGIN) / y.abs();
         across.min(down)
     });
-    room.fold(SIDE / sides.into_iter().fold(0.0, f64::max), f64::min)
+    let longest = sides.into_iter().fold(0.0, f64::max);
+    room.fold(SIDE / longest, f64::min)
+        .max(LEAST_SIDE / longest)
 }
 
 /// The triangle and what stands around it, with ids and weights.

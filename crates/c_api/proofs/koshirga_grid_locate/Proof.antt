@@ -12,14 +12,14 @@ enum-known-located c = search needs
 enum-known-located-2 : tie.Need-enum-known-located-2
 enum-known-located-2 c = search needs
 
-cast-t14 : tie.Need-cast-t14
-cast-t14 c = search needs
+cast-t17 : tie.Need-cast-t17
+cast-t17 c = search needs
 
-cast-t15 : tie.Need-cast-t15
-cast-t15 c = search needs
+cast-t18 : tie.Need-cast-t18
+cast-t18 c = search needs
 
-cast-t16 : tie.Need-cast-t16
-cast-t16 c = search needs
+cast-t19 : tie.Need-cast-t19
+cast-t19 c = search needs
 
 returns : tie.Need-returns
 returns c = rw (← c .before .before .before .locate .ensures, c .before .located .given .1)
@@ -34,8 +34,8 @@ koshirga-grid-locate-spec =
     locate-requires
     enum-known-located
     enum-known-located-2
-    cast-t14
-    cast-t15
-    cast-t16
+    cast-t17
+    cast-t18
+    cast-t19
     returns
     returns-2)

@@ -12,8 +12,8 @@ enum-known-nearest c = search needs
 enum-known-nearest-2 : tie.Need-enum-known-nearest-2
 enum-known-nearest-2 c = search needs
 
-cast-t13 : tie.Need-cast-t13
-cast-t13 c = search needs
+cast-t16 : tie.Need-cast-t16
+cast-t16 c = search needs
 
 returns : tie.Need-returns
 returns c = λ triples. rw (← c .before .before .before .find-nearest-vertex .ensures triples, c .before .nearest .given .1)
@@ -28,6 +28,6 @@ koshirga-grid-nearest-spec =
     find-nearest-vertex-requires
     enum-known-nearest
     enum-known-nearest-2
-    cast-t13
+    cast-t16
     returns
     returns-2)

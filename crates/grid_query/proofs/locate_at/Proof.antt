@@ -12,8 +12,10 @@ use borrow.Author.Tests.{lt-leb, le-leb}
 use Rattle.sequences.specs.Starts.{blockPart}
 use Rattle.mesh.specs.Mesh.{vertexCount}
 use Rattle.mesh.specs.Rows.{notFalling, idsBelow}
+use Rattle.grid.specs.declared.Settings.{Settings}
 use Rattle.grid.specs.Grid.{Grid}
-use Rattle.grid_query.specs.Cell.{lentGrid, triplesAt}
+use Rattle.grid.specs.Stored.{lentGrid}
+use Rattle.grid_query.specs.Cell.{triplesAt}
 use Rattle.grid_query.specs.Locate.{triplesWithin, triangleRows, locatedAt}
 use Rattle.grid_query.proofs.Parts.{falling-tested, triples-tested, triples-read}
 use Rattle.grid_query.proofs.locate_at.Statement.{statement}
@@ -31,8 +33,8 @@ end-of c = getD (start-of c .args .triangle-starts .now) (start-of c .args .vert
 abbrev part-of : tie.After-shared-slice-known5 → List ℕ
 part-of c = take (end-of c * 3 - first-of c * 3) (drop (first-of c * 3) (start-of c .args .triples .now))
 
-abbrev lent : tie.After-shared-slice-known5 → ℕ → List ℕ → List ℕ → Grid
-lent c side cell-starts cell-ids = lentGrid side cell-starts cell-ids (start-of c .args .triangle-starts .now) (start-of c .args .triples .now)
+abbrev lent : tie.After-shared-slice-known5 → Settings → ℕ → List ℕ → List ℕ → Grid
+lent c settings side cell-starts cell-ids = lentGrid settings side cell-starts cell-ids (start-of c .args .triangle-starts .now) (start-of c .args .triples .now)
 
 -- starts are of 32 bits
 small : (c : tie.After-shared-slice-known5) → (first-of c < 2 ^ 32) × (end-of c < 2 ^ 32)
@@ -45,13 +47,13 @@ inside c = (c .before .if1 .left, c .if2 .left)
 ascends : (c : tie.Else1) → let a = start-of (c .before) .args in notFalling (a .triangle-starts .now) (a .vertex) ≡ true
 ascends c = let a = start-of (c .before) .args in sym (falling-tested (a .triangle-starts .now) (a .vertex)) ∙ le-leb _ _ (c .if1 .left)
 
-module _ (c : tie.After-shared-slice-known5) (side : ℕ) (cell-starts cell-ids : List ℕ) where
-  within : (found : Bool) → leb (end-of c * 3) (length (start-of c .args .triples .now)) ≡ found → triplesWithin (lent c side cell-starts cell-ids) (start-of c .args .vertex) ≡ found
-  within found e = sym (triples-tested (lent c side cell-starts cell-ids) (start-of c .args .vertex)) ∙ e
+module _ (c : tie.After-shared-slice-known5) (settings : Settings) (side : ℕ) (cell-starts cell-ids : List ℕ) where
+  within : (found : Bool) → leb (end-of c * 3) (length (start-of c .args .triples .now)) ≡ found → triplesWithin (lent c settings side cell-starts cell-ids) (start-of c .args .vertex) ≡ found
+  within found e = sym (triples-tested (lent c settings side cell-starts cell-ids) (start-of c .args .vertex)) ∙ e
 
   -- the part is that of the vertex
   are-triples : part-of c ≡ blockPart 3 (start-of c .args .triangle-starts .now) (start-of c .args .triples .now) (start-of c .args .vertex)
-  are-triples = triples-read (lent c side cell-starts cell-ids) (start-of c .args .vertex)
+  are-triples = triples-read (lent c settings side cell-starts cell-ids) (start-of c .args .vertex)
 
 below : (c : tie.After-ids-below) (found : Bool) → c .ids-below .result ≡ found
     → let k = c .before .before .before .before .before in idsBelow (vertexCount (start-of k .args .positions .now)) (part-of k) ≡ found
@@ -83,7 +85,7 @@ at-requires c κs = search needs
 
 returns : tie.Need-returns
 unfolding locatedAt triangleRows
-returns c = λ side cell-starts cell-ids.
+returns c = λ settings side cell-starts cell-ids.
     let a = start-of (c .before .before) .args in
     rw (c .at .ensures, sym (falling-tested (a .triangle-starts .now) (a .vertex)) ∙ lt-leb _ _ (c .before .if1 .taken), add-one (a .vertex))
 
@@ -95,9 +97,9 @@ new-requires c κs = search needs
 
 returns-2 : tie.Need-returns-2
 unfolding locatedAt triangleRows
-returns-2 c = λ side cell-starts cell-ids.
+returns-2 c = λ settings side cell-starts cell-ids.
     let e = c .before .before in
-    rw (c .new .ensures, ascends e, within (e .before) side cell-starts cell-ids false (lt-leb _ _ (c .before .if2 .taken)))
+    rw (c .new .ensures, ascends e, within (e .before) settings side cell-starts cell-ids false (lt-leb _ _ (c .before .if2 .taken)))
 
 mul-first : tie.Need-mul-first
 mul-first c = omega (arith, inside c, small (c .before .before))
@@ -131,19 +133,19 @@ new-requires-2 c κs = search needs
 
 returns-3 : tie.Need-returns-3
 unfolding locatedAt triangleRows triplesAt
-returns-3 c = λ side cell-starts cell-ids.
+returns-3 c = λ settings side cell-starts cell-ids.
     let p = c .before .before in
     let e = p .before .before .before in
     let k = e .before .before in
-    rw (ascends (e .before), within k side cell-starts cell-ids true (le-leb _ _ (e .if2 .left)), ← (are-triples k side cell-starts cell-ids), below p true (c .before .if3 .taken)) (c .kept-triangle .ensures)
+    rw (ascends (e .before), within k settings side cell-starts cell-ids true (le-leb _ _ (e .if2 .left)), ← (are-triples k settings side cell-starts cell-ids), below p true (c .before .if3 .taken)) (c .kept-triangle .ensures)
 
 returns-4 : tie.Need-returns-4
 unfolding locatedAt triangleRows
-returns-4 c = λ side cell-starts cell-ids.
+returns-4 c = λ settings side cell-starts cell-ids.
     let p = c .before .before in
     let e = p .before .before .before in
     let k = e .before .before in
-    rw (c .new2 .ensures, ascends (e .before), within k side cell-starts cell-ids true (le-leb _ _ (e .if2 .left)), ← (are-triples k side cell-starts cell-ids), below p false (c .before .if3 .left))
+    rw (c .new2 .ensures, ascends (e .before), within k settings side cell-starts cell-ids true (le-leb _ _ (e .if2 .left)), ← (are-triples k settings side cell-starts cell-ids), below p false (c .before .if3 .left))
 
 pub locate-at-spec : {M : Type 1} → statement M
 locate-at-spec =

@@ -10,8 +10,10 @@ use lib.ListN.{length, getD, take, drop}
 use borrow.Author.Tests.{lt-leb, le-leb, lt-ltb, le-ltb}
 use Rattle.mesh.specs.Mesh.{vertexCount}
 use Rattle.mesh.specs.Rows.{notFalling, idsBelow}
+use Rattle.grid.specs.declared.Settings.{Settings}
 use Rattle.grid.specs.Grid.{Grid}
-use Rattle.grid_query.specs.Cell.{lentGrid, partWithin, candidates}
+use Rattle.grid.specs.Stored.{lentGrid}
+use Rattle.grid_query.specs.Cell.{partWithin, candidates}
 use Rattle.grid_query.specs.Nearest.{nearestOfCell}
 use Rattle.grid_query.proofs.Parts.{length-taken, falling-tested, part-tested, candidates-read}
 use Rattle.grid_query.proofs.nearest_of_cell.Statement.{statement}
@@ -29,8 +31,8 @@ end-of c = getD (start-of c .args .cell-starts .now) (start-of c .args .cell + 1
 abbrev part-of : tie.After-shared-slice-known5 → List ℕ
 part-of c = take (end-of c - first-of c) (drop (first-of c) (start-of c .args .cell-ids .now))
 
-abbrev lent : tie.After-shared-slice-known5 → ℕ → List ℕ → List ℕ → Grid
-lent c side triangle-starts triples = lentGrid side (start-of c .args .cell-starts .now) (start-of c .args .cell-ids .now) triangle-starts triples
+abbrev lent : tie.After-shared-slice-known5 → Settings → ℕ → List ℕ → List ℕ → Grid
+lent c settings side triangle-starts triples = lentGrid settings side (start-of c .args .cell-starts .now) (start-of c .args .cell-ids .now) triangle-starts triples
 
 -- a part that rows 18 and 3 let pass
 inside : (c : tie.Else2) → let k = c .before .before in (first-of k ≤ end-of k) × (end-of k ≤ length (start-of k .args .cell-ids .now))
@@ -46,8 +48,8 @@ part-length : (c : tie.Else2) → let k = c .before .before in length (part-of k
 part-length c = let k = c .before .before in length-taken (first-of k) (end-of k) (start-of k .args .cell-ids .now) (inside c .1)
 
 -- the part is the cell's candidates
-are-candidates : (c : tie.After-shared-slice-known5) (side : ℕ) (triangle-starts triples : List ℕ) → part-of c ≡ candidates (lent c side triangle-starts triples) (start-of c .args .cell)
-are-candidates c side triangle-starts triples = candidates-read (lent c side triangle-starts triples) (start-of c .args .cell)
+are-candidates : (c : tie.After-shared-slice-known5) (settings : Settings) (side : ℕ) (triangle-starts triples : List ℕ) → part-of c ≡ candidates (lent c settings side triangle-starts triples) (start-of c .args .cell)
+are-candidates c settings side triangle-starts triples = candidates-read (lent c settings side triangle-starts triples) (start-of c .args .cell)
 
 add-next : tie.Need-add-next
 add-next c = search needs
@@ -75,7 +77,7 @@ at-requires c κs = search needs
 
 returns : tie.Need-returns
 unfolding nearestOfCell
-returns c = λ side triangle-starts triples.
+returns c = λ settings side triangle-starts triples.
     let a = start-of (c .before .before) .args in
     rw (c .at .ensures, sym (falling-tested (a .cell-starts .now) (a .cell)) ∙ lt-leb _ _ (c .before .if1 .taken), add-one (a .cell))
 
@@ -84,7 +86,7 @@ new-requires c κs = search needs
 
 returns-2 : tie.Need-returns-2
 unfolding nearestOfCell
-returns-2 c = λ side triangle-starts triples.
+returns-2 c = λ settings side triangle-starts triples.
     let e = c .before .before in
     let a = start-of (e .before) .args in
     rw (c .new .ensures, ascends e, sym (part-tested (a .cell-starts .now) (a .cell) (length (a .cell-ids .now))) ∙ lt-leb _ _ (c .before .if2 .taken))
@@ -94,11 +96,11 @@ new-requires-2 c κs = search needs
 
 returns-3 : tie.Need-returns-3
 unfolding nearestOfCell
-returns-3 c = λ side triangle-starts triples.
+returns-3 c = λ settings side triangle-starts triples.
     let e = c .before .before in
     let k = e .before .before in
     let none : length (part-of k) ≤ 0 = (let same = c .before .if3 .taken in omega (arith, part-length e)) in
-    rw (c .new2 .ensures, ascends (e .before), within e, ← (are-candidates k side triangle-starts triples), le-ltb 0 (length (part-of k)) none)
+    rw (c .new2 .ensures, ascends (e .before), within e, ← (are-candidates k settings side triangle-starts triples), le-ltb 0 (length (part-of k)) none)
 
 mul-part : tie.Need-mul-part
 mul-part c = omega (arith, inside (c .before))
@@ -139,19 +141,19 @@ new-requires-3 c κs = search needs
 
 returns-4 : tie.Need-returns-4
 unfolding nearestOfCell
-returns-4 c = λ side triangle-starts triples.
+returns-4 c = λ settings side triangle-starts triples.
     let p = c .before .before .before .before in
     let e = p .before .before in
     let k = e .before .before in
-    rw (← (are-candidates k side triangle-starts triples), ascends (e .before), within e, lt-ltb 0 (length (part-of k)) (some p), below (c .before .before) true (c .before .if4 .taken)) (c .nearest-in-cell .ensures)
+    rw (← (are-candidates k settings side triangle-starts triples), ascends (e .before), within e, lt-ltb 0 (length (part-of k)) (some p), below (c .before .before) true (c .before .if4 .taken)) (c .nearest-in-cell .ensures)
 
 returns-5 : tie.Need-returns-5
 unfolding nearestOfCell
-returns-5 c = λ side triangle-starts triples.
+returns-5 c = λ settings side triangle-starts triples.
     let p = c .before .before .before .before in
     let e = p .before .before in
     let k = e .before .before in
-    rw (c .new3 .ensures, ← (are-candidates k side triangle-starts triples), ascends (e .before), within e, lt-ltb 0 (length (part-of k)) (some p), below (c .before .before) false (c .before .if4 .left))
+    rw (c .new3 .ensures, ← (are-candidates k settings side triangle-starts triples), ascends (e .before), within e, lt-ltb 0 (length (part-of k)) (some p), below (c .before .before) false (c .before .if4 .left))
 
 pub nearest-of-cell-spec : {M : Type 1} → statement M
 nearest-of-cell-spec =
