@@ -1,25 +1,14 @@
 //! The calls one after another, as a balloon is prepared and asked: what a renumbering by the walk's
 //! order leaves as it was.
 
+mod common;
+
+use common::directions;
 use koshirga::{
-    least_weight, projected_barycentric, FaceGrid, LatticeGeometry, MeshData, Settings, Vector3,
-    Walk,
+    least_weight, projected_barycentric, FaceGrid, LatticeGeometry, MeshData, Settings, Walk,
 };
 
 const FREQUENCIES: [u32; 4] = [1, 2, 7, 20];
-const DIRECTIONS: usize = 500;
-
-/// Directions inside the cube, the same in each run (Knuth's linear congruence).
-fn directions() -> impl Iterator<Item = Vector3> {
-    let mut state = 20_261_116_u64;
-    let mut component = move || {
-        state = state
-            .wrapping_mul(6_364_136_223_846_793_005)
-            .wrapping_add(1_442_695_040_888_963_407);
-        (state >> 11) as f64 / 2f64.powi(52) - 1.0
-    };
-    (0..DIRECTIONS).map(move |_| Vector3::new(component(), component(), component()))
-}
 
 /// A lattice, and its mesh and levels in the order of the walk. The level at a vertex is its id.
 fn prepared(frequency: u32) -> (LatticeGeometry, Walk, MeshData, Vec<f64>) {

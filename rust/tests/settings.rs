@@ -1,5 +1,8 @@
 //! The pair of a grid, factor and margin: which row refuses it, after which others, and what it does.
 
+mod common;
+
+use common::directions;
 use koshirga::{
     build_grid, FaceGrid, Grid, GridMut, LatticeGeometry, MeshData, Refusal, Settings, Vector3,
 };
@@ -34,18 +37,6 @@ fn number<T>(answer: Result<T, Refusal>) -> Option<u32> {
 fn queries(grid: Grid, direction: Vector3) -> [Option<u32>; 2] {
     let nearest = grid.find_nearest_vertex(direction);
     [number(nearest), number(grid.locate(direction))]
-}
-
-/// Directions inside the cube, the same in each run (Knuth's linear congruence).
-fn directions() -> impl Iterator<Item = Vector3> {
-    let mut state = 20_261_116_u64;
-    let mut component = move || {
-        state = state
-            .wrapping_mul(6_364_136_223_846_793_005)
-            .wrapping_add(1_442_695_040_888_963_407);
-        (state >> 11) as f64 / 2f64.powi(52) - 1.0
-    };
-    (0..500).map(move |_| Vector3::new(component(), component(), component()))
 }
 
 /// Vertices without neighbours.
