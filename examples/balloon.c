@@ -170,11 +170,14 @@ static koshirga_grid_slices room_for_grid(const balloon *b) {
     return lent;
 }
 
-/* The balloon's grid in the lent slices, which a query gets cut to what was filled. */
+/* The balloon's grid in the lent slices, which a query gets cut to what was filled. Prints how many
+ * conversions were held at an end, as calibration staff want to know. */
 static koshirga_grid make_grid(const balloon *b, koshirga_grid_slices lent) {
     koshirga_grid grid = {0};
     koshirga_build_answer built = koshirga_build_grid_of(mesh_of(b), FACTOR, MARGIN, lent, &grid);
     accepted_at("the grid", built.refusal, built.index);
+    printf("grid built: %u conversions held at an end of the signed range\n\n",
+           (unsigned)built.held);
     return grid;
 }
 

@@ -68,6 +68,18 @@ double any_double(draw *d) {
     }
 }
 
+double any_converted(draw *d) {
+    double magnitude;
+    switch (below(d, 4)) {
+    case 0: magnitude = from_bits(bits_of(0x1p63) + below(d, 5) - 2); break;
+    case 1: /* of up to 53 bits */
+        magnitude = ldexp((double)(any_bits(d) >> (11 + below(d, 53))), (int)below(d, 8) - 4);
+        break;
+    default: return any_double(d);
+    }
+    return one_in(d, 2) ? magnitude : -magnitude;
+}
+
 vector any_vector(draw *d) {
     switch (below(d, 4)) {
     case 0: return (vector){any_double(d), any_double(d), any_double(d)};
@@ -237,12 +249,31 @@ static mesh lattice_mesh(uint32_t frequency) {
     return m;
 }
 
-/* Row 5 passes. Components may be so small that a cell is past every whole number. */
+/* Almost edge-on to a cube face: a component is so small that another one divided by it is past the
+ * signed range as a rule, or overflows. Or it is such, to an ulp, that the other's cells are an end
+ * of this range: with a side of 2 as a rule, with 4, 8 or 16 at times. */
+static vector almost_edge_on(draw *d, vector v) {
+    double *part[3] = {&v.x, &v.y, &v.z};
+    uint32_t which = below(d, 3);
+    double *small = part[which], other = *part[(which + 1 + below(d, 2)) % 3];
+    if (one_in(d, 2)) {
+        *small = ldexp(*small, -(int)below(d, 1075));
+        return v;
+    }
+    int exponent = one_in(d, 2) ? -63 : -60 - (int)below(d, 4);
+    *small = from_bits(bits_of(ldexp(one_in(d, 2) ? other : -other, exponent)) + below(d, 3) - 1);
+    return v;
+}
+
+/* Row 5 passes. */
 static vector any_position(draw *d) {
     for (;;) {
         vector v = {signed_unit(d), signed_unit(d), signed_unit(d)};
         switch (below(d, 16)) {
-        case 0: v.x = ldexp(v.x, -(int)below(d, 1070)); break;
+        case 0:
+            v = almost_edge_on(d, v);
+            v = one_in(d, 4) ? almost_edge_on(d, v) : v;
+            break;
         case 1: v.y = one_in(d, 2) ? 0.0 : -0.0; break;
         case 2: v = lattice_point(d); break;
         case 3: v = at_an_end(d); break;

@@ -24,6 +24,10 @@ bool one_in(draw *d, uint32_t n);
 /* Any double: bit patterns, special values, whole numbers, and numbers about 1. */
 double any_double(draw *d);
 
+/* A number to be converted to a whole one: at an end of the signed range, to some ulps, one whose
+ * last bit is worth about 1, or any. */
+double any_converted(draw *d);
+
 /* From -1 to 1. */
 double signed_unit(draw *d);
 

@@ -25,6 +25,38 @@ static bool same_vectors(vector a, vector b) {
 
 /* ---- binary64, vectors and weights */
 
+/* Counts what became of a converted value. */
+static void count_conversion(double x, koshirga_conversion_answer answer) {
+    static const way CASES[] = {[KOSHIRGA_KEPT] = WAY_KEPT,
+                                [KOSHIRGA_CUT] = WAY_CUT,
+                                [KOSHIRGA_HELD] = WAY_HELD_UPPER,
+                                [KOSHIRGA_NOT_A_NUMBER] = WAY_NOT_A_NUMBER};
+    bool held = answer.how == KOSHIRGA_HELD;
+    count_way(ENTRY_to_i64, held && x < 0 ? WAY_HELD_LOWER : CASES[answer.how]);
+    if (answer.how == KOSHIRGA_KEPT && x == 0 && signbit(x))
+        count_way(ENTRY_to_i64, WAY_KEPT_ZERO);
+    if (answer.how == KOSHIRGA_KEPT && x == -0x1p63)
+        count_way(ENTRY_to_i64, WAY_KEPT_LOWER);
+    if (answer.how == KOSHIRGA_CUT && answer.whole == 0)
+        count_way(ENTRY_to_i64, WAY_CUT_TO_ZERO);
+    if (held && x == 0x1p63)
+        count_way(ENTRY_to_i64, WAY_HELD_NEXT);
+    if (held && isinf(x))
+        count_way(ENTRY_to_i64, WAY_HELD_INFINITE);
+}
+
+static void call_to_i64(double x) {
+    koshirga_conversion_answer expected = expected_to_i64(x), answer = koshirga_to_i64(x);
+    hold(ENTRY_to_i64, expected.whole == answer.whole, "the number");
+    hold(ENTRY_to_i64, expected.how == answer.how, "what became of the value");
+    /* 2^63 - 1 is no double: converted back it would be 2^63 */
+    hold(ENTRY_to_i64,
+         (answer.how == KOSHIRGA_KEPT) == (answer.whole < INT64_MAX && (double)answer.whole == x),
+         "kept exactly where the number is the value");
+    count(ENTRY_to_i64, 0);
+    count_conversion(x, answer);
+}
+
 static void arithmetic(draw *d) {
     double x = any_double(d), y = any_double(d), z = any_double(d);
     uint64_t p = bits_of(any_double(d)), q = one_in(d, 8) ? p : any_bits(d);
@@ -34,7 +66,7 @@ static void arithmetic(draw *d) {
     COMPARE(rank, EQUAL, expected_rank(x), x);
     COMPARE(floor, same, floor(x), x);
     COMPARE(ceil, same, ceil(x), x);
-    COMPARE(to_i64, EQUAL, expected_to_i64(x), x);
+    call_to_i64(any_converted(d));
     COMPARE(mul_add, same, fma(x, y, z), x, y, z);
     COMPARE(sqrt, same, sqrt(x), x);
     COMPARE(sqrt, same, sqrt(fabs(y)), fabs(y));
@@ -422,11 +454,13 @@ static void hold_grid(entry of) {
 }
 
 /* Cells and triangles that a built grid has: a side, parts that are filled, ids below the count, no
- * more cells to a vertex than three faces have about it. */
-static void hold_built(entry of, const grid *g, const grid *lengths, settings pair, uint32_t side) {
+ * more cells to a vertex than three faces have about it; and no more than three conversions held to
+ * a vertex, as of two components one at most is so much greater than the other. */
+static void hold_built(entry of, const grid *g, const grid *lengths, settings pair,
+                       koshirga_build_answer answer) {
     static uint32_t cells_of_id[VERTEX_MAX];
-    size_t vertices = lengths->triangle_starts_length - 1;
-    size_t cells = 6 * (size_t)side * side, across = 2 * (size_t)pair.margin + 1;
+    size_t vertices = lengths->triangle_starts_length - 1, side = answer.side;
+    size_t cells = 6 * side * side, across = 2 * (size_t)pair.margin + 1;
     size_t most = 3 * across * across;
     hold(of, side >= 2 && side <= SIDE_MAX, "a side from 2 to 420");
     hold(of, g->cell_starts[cells] == lengths->cell_ids_length, "the last cell's end");
@@ -446,6 +480,7 @@ static void hold_built(entry of, const grid *g, const grid *lengths, settings pa
     hold(of, below_count, "ids below the count");
     hold(of, few, "at most so many ids of a vertex");
     hold(of, ascending, "ascending triples");
+    hold(of, answer.held <= 3 * vertices, "at most so many conversions held");
 }
 
 /* Counts what the factor was that row 19 refused. */
@@ -501,6 +536,24 @@ static void count_build(entry of, settings pair, const grid *given, const grid *
         count_way(of, settings_row(pair) == 19 ? WAY_POSITION_AND_FACTOR : WAY_POSITION_AND_MARGIN);
     if ((row == 19 || row == 20) && short_room)
         count_way(of, row == 19 ? WAY_FACTOR_AND_ROOM : WAY_MARGIN_AND_ROOM);
+}
+
+/* Counts at which ends a build's conversions were held, or would have been but for row 8. */
+static void count_ends(entry of, const mesh *m, settings pair, uint32_t row) {
+    if (row != 0 && row != 8)
+        return;
+    ends found = ends_of(m, grid_side(pair.factor, m->positions_length / 3));
+    if (row == 8) {
+        if (found.held_upper || found.held_lower)
+            count_way(of, WAY_HELD_AND_ROOM);
+        return;
+    }
+    if (found.held_upper)
+        count_way(of, WAY_HELD_UPPER);
+    if (found.held_lower)
+        count_way(of, WAY_HELD_LOWER);
+    if (found.kept_lower)
+        count_way(of, WAY_KEPT_LOWER);
 }
 
 /* The struct that a build leaves: the grid with its slices cut to their lengths, or what it was. */
@@ -583,15 +636,17 @@ static bool call_build_grid(draw *d, const mesh *drawn, query *built) {
     }
     hold_index(of, answer.refusal, expected.index, answer.index);
     hold(of, expected.side == answer.side, "the side");
+    hold(of, expected.held == answer.held, "the count of conversions held");
     hold_mesh(of);
     hold_grid(of);
     count(of, answer.refusal);
     count_starts(of, &e, answer.refusal, answer.index);
     count_build(of, pair, &given, &needed, answer.refusal);
+    count_ends(of, &e, pair, answer.refusal);
     if (answer.refusal)
         return false;
-    hold_built(of, &g, &needed, pair, answer.side);
-    count_side(answer.side);
+    hold_built(of, &g, &needed, pair, answer);
+    count_built(answer.side, answer.held);
     *built =
         (query){query_positions, m.positions_length, pair, answer.side, needed, pair, answer.side};
     keep(query_positions, m.positions, m.positions_length, sizeof *m.positions);

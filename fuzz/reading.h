@@ -1,6 +1,6 @@
-/* Document 01, as change requests W-209 and W-210 leave it, read a second time, in C. expected_NAME
- * says what koshirga_NAME returns, and writes what it leaves into the slices that it is given. It
- * follows the text of these papers and nothing of the proved code. */
+/* Document 01, as change requests W-207, W-209 and W-210 leave it, read a second time, in C.
+ * expected_NAME says what koshirga_NAME returns, and writes what it leaves into the slices that it
+ * is given. It follows the text of these papers and nothing of the proved code. */
 #ifndef READING_H
 #define READING_H
 
@@ -49,11 +49,17 @@
  *  39. a placement is clamped to the face, as a query is
  *  40. the side is a floor and 1 more, not a ceiling
  *  41. the factor stands under the root, as its square
- *  42. row 8 between rows 19 and 20 */
+ *  42. row 8 between rows 19 and 20
+ *  43. conversions held at the upper end alone are counted
+ *  44. -2^63 is called held
+ *  45. -0 is called cut
+ *  46. the count takes the faces with d = 0 too
+ *  47. the count takes every conversion that gives an end of the range, -2^63 kept too
+ *  48. a build that row 8 refuses carries the count */
 #ifndef MISREAD
 #define MISREAD 0
 #endif
-enum { MISREADINGS = 42 };
+enum { MISREADINGS = 48 };
 
 enum { FREQUENCY_MAX = 80, VERTEX_MAX = 65536, LIST_MAX = 32, MARGIN_MAX = 3, ROWS = 20 };
 
@@ -114,7 +120,7 @@ double from_bits(uint64_t bits);
 
 int32_t expected_total_cmp(uint64_t x, uint64_t y);
 uint64_t expected_rank(double x);
-int64_t expected_to_i64(double x);
+koshirga_conversion_answer expected_to_i64(double x);
 
 double expected_dot(koshirga_vector3 a, koshirga_vector3 b);
 koshirga_vector3 expected_cross(koshirga_vector3 a, koshirga_vector3 b);
@@ -166,6 +172,15 @@ uint32_t grid_side(double factor, size_t count);
 /* The lengths of the grid of a mesh that passes rows 2 to 5, with a pair that passes rows 19 and
  * 20; its slices are not looked at. */
 grid grid_lengths(const mesh *m, settings pair);
+
+/* How many conversions of a build give an end of the signed range: held at the upper one, held at
+ * the lower one, or the lower one itself, kept. */
+typedef struct ends {
+    uint32_t held_upper, held_lower, kept_lower;
+} ends;
+
+/* Of a mesh that passes rows 2 to 5. */
+ends ends_of(const mesh *m, uint32_t side);
 
 koshirga_build_answer expected_build_grid(const mesh *m, settings pair, grid *filled);
 

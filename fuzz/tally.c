@@ -13,11 +13,20 @@
 static const char *const NAMES[ENTRIES] = {ENTRY_POINTS(NAME)};
 #undef NAME
 
-/* The calls that read starts, as columns. Which of them can meet a way: a bit each, the first the
- * lowest. */
-enum { COLUMNS = 5, WHOLE = 7, QUERIES = 24, LOCATION = 16, BUILDER = 4, PAIRS = 28 };
-static const entry WITH_STARTS[COLUMNS] = {ENTRY_walk, ENTRY_renumber, ENTRY_build_grid,
-                                           ENTRY_grid_nearest, ENTRY_grid_locate};
+/* The calls whose ways are counted, as columns. Which of them can meet a way: a bit each, the first
+ * the lowest. */
+enum {
+    COLUMNS = 6,
+    CONVERSION = 1,
+    WHOLE = 14,
+    BUILDER = 8,
+    QUERIES = 48,
+    LOCATION = 32,
+    PAIRS = BUILDER | QUERIES,
+    ENDS = CONVERSION | BUILDER
+};
+static const entry WITH_WAYS[COLUMNS] = {ENTRY_to_i64,     ENTRY_walk,         ENTRY_renumber,
+                                         ENTRY_build_grid, ENTRY_grid_nearest, ENTRY_grid_locate};
 #define WAY(name, calls, text) {calls, text},
 static const struct {
     unsigned calls;
@@ -29,7 +38,8 @@ static uint64_t calls[ENTRIES][ROWS + 1];
 static uint64_t ways[ENTRIES][WAY_COUNT];
 static uint64_t all_calls, inputs, facts;
 static bool built[FREQUENCY_MAX + 1];
-static uint32_t least_side = UINT32_MAX, greatest_side;
+static uint32_t least_side = UINT32_MAX, greatest_side, most_held;
+static uint64_t builds_with_held;
 static uint64_t calls_limit = UINT64_MAX;
 static double seconds_limit = 1e18, begun;
 
@@ -49,9 +59,11 @@ void count_way(entry of, way met) { ways[of][met]++; }
 
 void count_lattice(uint32_t frequency) { built[frequency] = true; }
 
-void count_side(uint32_t side) {
+void count_built(uint32_t side, uint32_t held) {
     least_side = side < least_side ? side : least_side;
     greatest_side = side > greatest_side ? side : greatest_side;
+    most_held = held > most_held ? held : most_held;
+    builds_with_held += held > 0;
 }
 
 void hold(entry of, bool fact, const char *what) {
@@ -122,9 +134,9 @@ static int print_unmet(void) {
     int found = 0;
     for (int w = 0; w < WAY_COUNT; w++)
         for (int column = 0; column < COLUMNS; column++)
-            if (WAYS_OF[w].calls >> column & 1 && !ways[WITH_STARTS[column]][w]) {
+            if (WAYS_OF[w].calls >> column & 1 && !ways[WITH_WAYS[column]][w]) {
                 printf("koshirga_%s never met \"%s\": the run is too short\n",
-                       NAMES[WITH_STARTS[column]], WAYS_OF[w].text);
+                       NAMES[WITH_WAYS[column]], WAYS_OF[w].text);
                 found++;
             }
     return found;
@@ -163,14 +175,14 @@ static void print_ways(const char *title, unsigned of, int first, int end) {
     printf("\n%-42s", title);
     for (int column = 0; column < COLUMNS; column++)
         if (of >> column & 1)
-            printf(" %12s", NAMES[WITH_STARTS[column]]);
+            printf(" %12s", NAMES[WITH_WAYS[column]]);
     printf("\n");
     for (int w = first; w < end; w++) {
         printf("%-42s", WAYS_OF[w].text);
         for (int column = 0; column < COLUMNS; column++)
             if (of >> column & 1) {
                 printf("   ");
-                print_count(ways[WITH_STARTS[column]][w]);
+                print_count(ways[WITH_WAYS[column]][w]);
             }
         printf("\n");
     }
@@ -179,12 +191,15 @@ static void print_ways(const char *title, unsigned of, int first, int end) {
 static void print_tables(double seconds) {
     print_rows();
     print_ways("starts refused, by row", WHOLE | QUERIES, 0, WAY_PAIRS);
-    print_ways("pairs, by row (0: accepted)", PAIRS, WAY_PAIRS, WAY_COUNT);
+    print_ways("pairs, by row (0: accepted)", PAIRS, WAY_PAIRS, WAY_CONVERSIONS);
+    print_ways("conversions", ENDS, WAY_CONVERSIONS, WAY_COUNT);
     int frequencies = 0;
     for (int n = 1; n <= FREQUENCY_MAX; n++)
         frequencies += built[n];
     printf("\nlattices of %d of the %d frequencies\n", frequencies, FREQUENCY_MAX);
     printf("grids of sides from %" PRIu32 " to %" PRIu32 "\n", least_side, greatest_side);
+    printf("%" PRIu64 " of them with conversions held at an end, at most %" PRIu32 " in one\n",
+           builds_with_held, most_held);
     printf("%" PRIu64 " calls from %" PRIu64 " inputs, %.0f s (%.0f s of processor time)\n",
            all_calls, inputs, seconds, seconds_of(CLOCK_PROCESS_CPUTIME_ID));
     printf("%" PRIu64 " facts held, 0 faults, 0 differences\n", facts);

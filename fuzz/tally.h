@@ -92,14 +92,29 @@ typedef enum entry { ENTRY_POINTS(ENTRY) ENTRIES } entry;
     X(FACTOR_CHANGED, QUERIES, "0: another factor than at building")                               \
     X(MARGIN_CHANGED, QUERIES, "0: another margin than at building")
 
-#define WAYS(X) START_WAYS(X) PAIR_WAYS(X)
+/* The same for conversions to a whole number: in the conversion itself, in it and in an accepted
+ * build whose placing had one, or in a build that was refused. */
+#define CONVERSION_WAYS(X)                                                                         \
+    X(KEPT, CONVERSION, "kept")                                                                    \
+    X(KEPT_ZERO, CONVERSION, "kept: -0")                                                           \
+    X(KEPT_LOWER, ENDS, "kept: -2^63")                                                             \
+    X(CUT, CONVERSION, "cut")                                                                      \
+    X(CUT_TO_ZERO, CONVERSION, "cut to 0")                                                         \
+    X(HELD_UPPER, ENDS, "held at the upper end")                                                   \
+    X(HELD_NEXT, CONVERSION, "held at the upper end: 2^63")                                        \
+    X(HELD_LOWER, ENDS, "held at the lower end")                                                   \
+    X(HELD_INFINITE, CONVERSION, "held: an infinity")                                              \
+    X(NOT_A_NUMBER, CONVERSION, "not a number")                                                    \
+    X(HELD_AND_ROOM, BUILDER, "8: and conversions that would be held")
+
+#define WAYS(X) START_WAYS(X) PAIR_WAYS(X) CONVERSION_WAYS(X)
 
 #define WAY(name, calls, text) WAY_##name,
 typedef enum way { WAYS(WAY) WAY_COUNT } way;
 #undef WAY
 
-/* The first way of the pairs. */
-enum { WAY_PAIRS = WAY_FACTOR_NAN };
+/* The first way of the pairs, and of the conversions. */
+enum { WAY_PAIRS = WAY_FACTOR_NAN, WAY_CONVERSIONS = WAY_KEPT };
 
 /* The call was answered by this row; 0: accepted. */
 void count(entry of, uint32_t row);
@@ -110,8 +125,8 @@ void count_way(entry of, way met);
 /* The lattice of this frequency, from 1 to 80, was built. */
 void count_lattice(uint32_t frequency);
 
-/* A grid of this side was built. */
-void count_side(uint32_t side);
+/* A grid of this side was built, with so many conversions held at an end. */
+void count_built(uint32_t side, uint32_t held);
 
 /* Ends the run unless the fact holds. */
 void hold(entry of, bool fact, const char *what);

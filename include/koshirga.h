@@ -44,7 +44,7 @@
 #include <stdint.h>
 
 #define KOSHIRGA_VERSION_MAJOR 0
-#define KOSHIRGA_VERSION_MINOR 3
+#define KOSHIRGA_VERSION_MINOR 4
 #define KOSHIRGA_VERSION_PATCH 0
 
 #ifdef __cplusplus
@@ -53,15 +53,15 @@ extern "C" {
 
 /* ---- refusals */
 
-/* One of these is a call's result, or is in the first field of its answer, `refusal`. A call is
- * refused by the first of its rows that holds; its comment names them by number, in their order.
- * All other fields are then 0, but for the index of KOSHIRGA_STARTS_FALL, and no slice is changed,
- * but for KOSHIRGA_UNREACHED. Later versions may add rows: take every number but KOSHIRGA_ACCEPTED
- * for a refusal, also one that isn't here.
+/* One of these is the result of a call that may be refused, or is in the first field of its answer,
+ * `refusal`. A call is refused by the first of its rows that holds; its comment names them by
+ * number, in their order. All other fields are then 0, but for the index of KOSHIRGA_STARTS_FALL,
+ * and no slice is changed, but for KOSHIRGA_UNREACHED. Later versions may add rows: take every
+ * number but KOSHIRGA_ACCEPTED for a refusal, also one that isn't here.
  *
- * `index`, the last field of some answers, belongs to KOSHIRGA_STARTS_FALL alone: the place in the
- * start list, counted from 0, of the first start that is below the one before it, so at least 1.
- * The starts 0, 5, 3, 2 have 2. With every other number, KOSHIRGA_ACCEPTED among them, it is 0.
+ * `index`, a field of some answers, belongs to KOSHIRGA_STARTS_FALL alone: the place in the start
+ * list, counted from 0, of the first start that is below the one before it, so at least 1. The
+ * starts 0, 5, 3, 2 have 2. With every other number, KOSHIRGA_ACCEPTED among them, it is 0.
  *
  * The order for a mesh is 2, 3, 17, 18, 3, 4. Row 3 stands there twice: a wrong length comes before
  * 17 and 18, which read the whole list, and a neighbour list over 32 behind them, as it has a
@@ -132,9 +132,31 @@ double koshirga_floor(double x);
  * infinity stays (5.9), and a zero result has the sign of x (6.3). */
 double koshirga_ceil(double x);
 
-/* convertToIntegerTowardZero (IEEE 754-2019, 5.8). Where the clause leaves the result open: the
- * nearer end of the range for a value or infinity beyond it, 0 for a NaN. */
-int64_t koshirga_to_i64(double x);
+/* What became of a converted value; koshirga_to_i64 says when each holds. */
+enum koshirga_conversion {
+    KOSHIRGA_KEPT = 0,
+    KOSHIRGA_CUT = 1,
+    KOSHIRGA_HELD = 2,
+    KOSHIRGA_NOT_A_NUMBER = 3
+};
+
+typedef struct koshirga_conversion_answer {
+    int64_t whole;
+    uint32_t how; /* a number of koshirga_conversion */
+} koshirga_conversion_answer;
+
+/* convertToIntegerTowardZero (IEEE 754-2019, 5.8), and what became of x. No x is refused; for each
+ * exactly one holds:
+ *   KOSHIRGA_KEPT          x is a whole number from -2^63 to 2^63 - 1, and whole is x. -2^63 itself
+ *                          is kept, and so is -0, as 0.
+ *   KOSHIRGA_CUT           x is between -2^63 and 2^63 and has a fraction, which is cut off toward
+ *                          zero: -1.5 gives -1, and 0.5 and -0.5 give 0.
+ *   KOSHIRGA_HELD          x is below -2^63, or is 2^63 or above, the infinities among them: whole
+ *                          is the nearer end of the range, -2^63 or 2^63 - 1.
+ *   KOSHIRGA_NOT_A_NUMBER  x is a NaN, and whole is 0.
+ * The clause leaves whole open in the last two. A number at an end doesn't say that it was held:
+ * -2^63 comes of -2^63, which is kept, and of -2^64, which is held. */
+koshirga_conversion_answer koshirga_to_i64(double x);
 
 /* a*b + c, exact and then rounded once, to nearest, ties to even: fusedMultiplyAdd (IEEE 754-2019,
  * 5.4.1 and 4.3.1). An exact zero sum of opposite signs is +0, and a result that is rounded to zero
@@ -290,7 +312,8 @@ uint32_t koshirga_lattice(uint32_t frequency, double *positions, size_t position
 
 typedef struct koshirga_build_answer {
     uint32_t refusal, side;
-    size_t index; /* that of row 18 */
+    size_t index;  /* that of row 18 */
+    uint32_t held; /* how many conversions were held at an end */
 } koshirga_build_answer;
 
 /* The usual pair of a grid. */
@@ -317,7 +340,15 @@ typedef struct koshirga_build_answer {
  * for all 80 frequencies; where room is short, row 8 refuses. Surplus is untouched; the last start
  * of either list says how many ids or triples there are, and queries take the slices cut to these
  * lengths. Vertices are placed by division, fused multiply-add and product (IEEE 754-2019, 5.4.1
- * and 4.3.1) and conversion (5.8). Rows 2, 3, 17, 18, 3, 4, 5, 19, 20, 8 change nothing. */
+ * and 4.3.1) and the conversion of koshirga_to_i64 (5.8). Rows 2, 3, 17, 18, 3, 4, 5, 19, 20, 8
+ * change nothing.
+ *
+ * held counts the conversions that are KOSHIRGA_HELD, which tells how often positions are almost
+ * edge-on to a cube face. A vertex has two conversions on each face that it is in front of, for its
+ * row and its column there, and each is counted once: at most six a vertex, as is proved. One is
+ * held where the coordinate along the face's axis isn't 0 and is, in magnitude, below about g/2^64
+ * of another, as where rounding left a little of what should be 0; the vertex is then in no cell of
+ * that face. Positions and side alone decide the count. */
 koshirga_build_answer koshirga_build_grid(const double *positions, size_t positions_length,
                                           const uint32_t *starts, size_t starts_length,
                                           const uint16_t *entries, size_t entries_length,

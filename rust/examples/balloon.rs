@@ -60,6 +60,7 @@ fn level(v: Vector3) -> f64 {
 }
 
 fn print_balloon(mesh: &MeshData, levels: &[f64], walk: &Walk, grid: &FaceGrid, frequency: u32) {
+    let held = grid.held();
     let grid = grid.as_grid();
     let cells = grid.cell_starts.windows(2).map(|ends| ends[1] - ends[0]);
     let (fewest, most) = (
@@ -86,6 +87,7 @@ fn print_balloon(mesh: &MeshData, levels: &[f64], walk: &Walk, grid: &FaceGrid, 
         cells.len(),
         grid.cell_ids.len()
     );
+    println!("  conversions    {held} held at an end, by positions almost edge-on to a cube face");
 }
 
 /// The grid's answers, in the ids of the renumbered mesh.

@@ -43,15 +43,61 @@ pub fn ceil(x: f64) -> f64 {
     ffi::koshirga_ceil(x)
 }
 
-/// `x` cut toward zero: convertToIntegerTowardZero (IEEE 754-2019, 5.8). Where the clause leaves
-/// the result open: the nearer end of the range for values beyond it, 0 for a NaN.
+/// What became of a converted value: exactly one holds for each.
+#[derive(Clone, Copy, Debug, PartialEq, Eq)]
+pub enum Conversion {
+    /// It is a whole number from −2^63 to 2^63 − 1, and is the result. −2^63 itself is kept, and so
+    /// is −0, as 0.
+    Kept,
+    /// It is between −2^63 and 2^63 and has a fraction, which is cut off toward zero.
+    Cut,
+    /// It is below −2^63, or is 2^63 or above, the infinities among them; the result is the nearer
+    /// end of the range.
+    Held,
+    /// It is a NaN, and the result is 0.
+    NotANumber,
+}
+
+impl Conversion {
+    /// An export's number.
+    fn of_code(code: u32) -> Conversion {
+        match code {
+            0 => Conversion::Kept,
+            1 => Conversion::Cut,
+            2 => Conversion::Held,
+            3 => Conversion::NotANumber,
+            other => unreachable!("koshirga_to_i64 answered {other}"),
+        }
+    }
+}
+
+/// A converted value.
+#[derive(Clone, Copy, Debug, PartialEq, Eq)]
+pub struct Converted {
+    /// The result.
+    pub whole: i64,
+    /// What became of the value. The result doesn't say it: −2^63 comes of −2^63, which is kept,
+    /// and of −2^64, which is held.
+    pub how: Conversion,
+}
+
+/// convertToIntegerTowardZero (IEEE 754-2019, 5.8), and what became of `x`. The clause leaves the
+/// result open for what is held and for a NaN; [`Conversion`] has it.
 ///
 /// ```
-/// assert_eq!(koshirga::to_i64(-1.5), -1);
-/// assert_eq!(koshirga::to_i64(1e19), i64::MAX);
+/// use koshirga::{to_i64, Conversion, Converted};
+///
+/// let cut = Converted { whole: -1, how: Conversion::Cut };
+/// assert_eq!(to_i64(-1.5), cut);
+/// let held = Converted { whole: i64::MAX, how: Conversion::Held };
+/// assert_eq!(to_i64(1e19), held);
 /// ```
-pub fn to_i64(x: f64) -> i64 {
-    ffi::koshirga_to_i64(x)
+pub fn to_i64(x: f64) -> Converted {
+    let answer = ffi::koshirga_to_i64(x);
+    Converted {
+        whole: answer.whole,
+        how: Conversion::of_code(answer.how),
+    }
 }
 
 /// a·b + c, exact and then rounded once, to nearest, ties to even: fusedMultiplyAdd (IEEE 754-2019,
@@ -82,6 +128,7 @@ pub fn sqrt(x: f64) -> f64 {
 #[cfg(test)]
 mod tests {
     use super::*;
+    use crate::ffi::tests::constants;
 
     const TWO_TO_63: f64 = 9_223_372_036_854_775_808.0;
 
@@ -151,20 +198,56 @@ mod tests {
 
     #[test]
     fn conversion() {
-        for (x, whole) in [
-            (-0.5, 0),
-            (-1.5, -1),
-            (1.999, 1),
-            (TWO_TO_63, i64::MAX),
-            (TWO_TO_63.next_down(), 9_223_372_036_854_774_784),
-            (-TWO_TO_63, i64::MIN),
-            ((-TWO_TO_63).next_down(), i64::MIN),
-            (f64::INFINITY, i64::MAX),
-            (f64::NEG_INFINITY, i64::MIN),
-            (f64::NAN, 0),
+        use Conversion::{Cut, Held, Kept, NotANumber};
+        for (x, whole, how) in [
+            (-0.5, 0, Cut),
+            (-1.5, -1, Cut),
+            (TWO_TO_63, i64::MAX, Held),
+            (0.0, 0, Kept),
+            (-0.0, 0, Kept),
+            (1.0, 1, Kept),
+            (-1.0, -1, Kept),
+            (0.5, 0, Cut),
+            (1.999, 1, Cut),
+            (LEAST, 0, Cut),
+            (-LEAST, 0, Cut),
+            (1f64.next_down(), 0, Cut),
+            ((-1f64).next_down(), -1, Cut),
+            // The greatest with a fraction, and whole numbers on both sides of 2^53.
+            (4_503_599_627_370_495.5, 4_503_599_627_370_495, Cut),
+            (4_503_599_627_370_496.0, 4_503_599_627_370_496, Kept),
+            (-4_503_599_627_370_495.5, -4_503_599_627_370_495, Cut),
+            (9_007_199_254_740_991.0, 9_007_199_254_740_991, Kept),
+            (9_007_199_254_740_994.0, 9_007_199_254_740_994, Kept),
+            // The ends of the range.
+            (TWO_TO_63.next_down(), 9_223_372_036_854_774_784, Kept),
+            (-TWO_TO_63, i64::MIN, Kept),
+            ((-TWO_TO_63).next_up(), -9_223_372_036_854_774_784, Kept),
+            ((-TWO_TO_63).next_down(), i64::MIN, Held),
+            (-2.0 * TWO_TO_63, i64::MIN, Held),
+            (f64::MAX, i64::MAX, Held),
+            (f64::MIN, i64::MIN, Held),
+            (f64::INFINITY, i64::MAX, Held),
+            (f64::NEG_INFINITY, i64::MIN, Held),
+            (f64::NAN, 0, NotANumber),
+            (-f64::NAN, 0, NotANumber),
+            (f64::from_bits(0x7ff0_0000_0000_0001), 0, NotANumber),
+            (f64::from_bits(0xffff_ffff_ffff_ffff), 0, NotANumber),
         ] {
-            assert_eq!(to_i64(x), whole, "{x}");
+            assert_eq!(to_i64(x), Converted { whole, how }, "{x:e}");
         }
+    }
+
+    /// The header's numbers, by their names.
+    #[test]
+    fn cases_are_those_of_the_header() {
+        let named = |(name, code): (&str, u32)| {
+            let case = format!("{:?}", Conversion::of_code(code));
+            (name.replace('_', ""), case.to_uppercase())
+        };
+        let cases: Vec<_> = constants("conversion").map(named).collect();
+        assert_eq!(cases.len(), 4);
+        assert!(cases.iter().all(|(name, case)| name == case), "{cases:?}");
     }
 
     const LEAST: f64 = f64::from_bits(1);

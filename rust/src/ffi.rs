@@ -5,10 +5,17 @@
 use crate::{Grid, GridMut, Mesh, MeshMut, Scratch, Settings, Vector3, Weights};
 
 #[repr(C)]
+pub struct ConversionAnswer {
+    pub whole: i64,
+    pub how: u32,
+}
+
+#[repr(C)]
 pub struct BuildAnswer {
     pub refusal: u32,
     pub side: u32,
     pub index: usize,
+    pub held: u32,
 }
 
 #[repr(C)]
@@ -66,7 +73,7 @@ unsafe extern "C" {
     pub safe fn koshirga_rank(x: f64) -> u64;
     pub safe fn koshirga_floor(x: f64) -> f64;
     pub safe fn koshirga_ceil(x: f64) -> f64;
-    pub safe fn koshirga_to_i64(x: f64) -> i64;
+    pub safe fn koshirga_to_i64(x: f64) -> ConversionAnswer;
     pub safe fn koshirga_mul_add(a: f64, b: f64, c: f64) -> f64;
     pub safe fn koshirga_sqrt(x: f64) -> f64;
 
@@ -388,7 +395,7 @@ pub fn grid_locate(grid: Grid, direction: Vector3) -> LocatedAnswer {
 }
 
 #[cfg(test)]
-mod tests {
+pub mod tests {
     use super::*;
     use std::collections::BTreeSet;
     use std::mem::{offset_of, size_of};
@@ -476,50 +483,63 @@ mod tests {
         }
     }
 
-    /// The size of the header's `koshirga_..._answer`, and the place of its field `index`, as the
-    /// System V convention lays the fields out.
-    fn header_layout(answer: &str) -> (usize, Option<usize>) {
+    /// The size of the header's `koshirga_..._answer`, and the place of one of its fields, as the
+    /// System V convention lays them out.
+    fn header_layout(answer: &str, field: &str) -> (usize, Option<usize>) {
         let header = include_str!("../../include/koshirga.h");
         let head = format!("\ntypedef struct koshirga_{answer}_answer {{\n");
         let (_, rest) = header.split_once(&head).unwrap();
         let (fields, _) = rest.split_once("\n}").unwrap();
-        let (mut end, mut align, mut index) = (0_usize, 1, None);
+        let (mut end, mut align, mut place) = (0_usize, 1, None);
         for line in fields.lines() {
             let (declared, _) = line.split_once(';').unwrap();
             let (kind, names) = declared.trim().split_once(' ').unwrap();
             let width = match kind {
                 "uint32_t" => 4,
-                "double" | "size_t" => 8,
+                "double" | "int64_t" | "size_t" => 8,
                 other => panic!("{other}"),
             };
             align = width.max(align);
             for name in names.split(", ") {
                 let start = end.next_multiple_of(width);
-                if name == "index" {
-                    index = Some(start);
+                if name == field {
+                    place = Some(start);
                 }
                 end = start + width;
             }
         }
-        (end.next_multiple_of(align), index)
+        (end.next_multiple_of(align), place)
     }
 
     #[test]
     fn answers_are_laid_out_as_in_the_header() {
-        macro_rules! with_index {
-            ($answer:ident) => {
-                (size_of::<$answer>(), Some(offset_of!($answer, index)))
-            };
+        macro_rules! same {
+            ($answer:literal, $ours:ident, $($field:ident),+) => {$(
+                let ours = (size_of::<$ours>(), Some(offset_of!($ours, $field)));
+                assert_eq!(header_layout($answer, stringify!($field)), ours);
+            )+};
         }
-        assert_eq!(header_layout("walk"), with_index!(WalkAnswer));
-        assert_eq!(header_layout("verdict"), with_index!(VerdictAnswer));
-        assert_eq!(header_layout("build"), with_index!(BuildAnswer));
-        assert_eq!(header_layout("nearest"), with_index!(NearestAnswer));
-        assert_eq!(header_layout("located"), with_index!(LocatedAnswer));
-        assert_eq!(header_layout("face"), (size_of::<FaceAnswer>(), None));
-        assert_eq!(header_layout("vertex"), (size_of::<VertexAnswer>(), None));
-        let analytic = size_of::<AnalyticAnswer>();
-        assert_eq!(header_layout("analytic"), (analytic, None));
+        same!("conversion", ConversionAnswer, whole, how);
+        same!("walk", WalkAnswer, refusal, entries_read, index);
+        same!("verdict", VerdictAnswer, refusal, index);
+        same!("build", BuildAnswer, refusal, side, index, held);
+        same!("nearest", NearestAnswer, id, candidates, distance, index);
+        same!("located", LocatedAnswer, refusal, least, index);
+        same!("face", FaceAnswer, refusal, face);
+        same!("vertex", VertexAnswer, refusal, id);
+        same!("analytic", AnalyticAnswer, refusal);
+    }
+
+    /// The constants of the header's `enum koshirga_...`, each `KOSHIRGA_NAME = NUMBER` in a line
+    /// of its own.
+    pub fn constants(name: &str) -> impl Iterator<Item = (&'static str, u32)> {
+        let header = include_str!("../../include/koshirga.h");
+        let head = format!("\nenum koshirga_{name} {{\n");
+        let (_, rest) = header.split_once(&head).unwrap();
+        let (lines, _) = rest.split_once("\n}").unwrap();
+        let named = |line: &'static str| line.trim().strip_prefix("KOSHIRGA_")?.split_once(" = ");
+        let lines = lines.lines().filter_map(named);
+        lines.map(|(name, value)| (name, value.trim_end_matches(',').parse().unwrap()))
     }
 
     /// What the header defines as `KOSHIRGA_...`, as it is written there.

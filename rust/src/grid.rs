@@ -84,18 +84,35 @@ pub struct GridMut<'a> {
     pub triples: &'a mut [u16],
 }
 
-/// Writes the grid of a mesh and gives its side g: 6g² + 1 cell starts, the cells' ids, a triangle
-/// start a vertex and one more, and the triples. Before a query the slices are cut to these
-/// lengths: as many cell ids as the last cell start says, and three ids for each triple that the
-/// last triangle start counts. Surplus places are untouched. Rows 2, 3, 17, 18, 3, 4, 5, 19, 20 and
-/// 8 change nothing.
+/// What an accepted build gives.
+#[derive(Clone, Copy, Debug, PartialEq, Eq)]
+pub struct Built {
+    /// The cells along an edge of a cube face: g.
+    pub side: u32,
+    /// How many conversions were held at an end of the signed range
+    /// ([`Conversion::Held`](crate::Conversion::Held)), which tells how often positions are almost
+    /// edge-on to a cube face. A vertex has two conversions on each face that it is in front of,
+    /// for its row and its column there, and each is counted once: at most six a vertex, as is
+    /// proved. One is held where the coordinate along the face's axis isn't 0 and is, in magnitude,
+    /// below about g/2^64 of another; the vertex is then in no cell of that face. Positions and
+    /// side alone decide the count.
+    pub held: u32,
+}
+
+/// Writes the grid of a mesh: 6g² + 1 cell starts, the cells' ids, a triangle start a vertex and
+/// one more, and the triples. Before a query the slices are cut to these lengths: as many cell ids
+/// as the last cell start says, and three ids for each triple that the last triangle start counts.
+/// Surplus places are untouched. Rows 2, 3, 17, 18, 3, 4, 5, 19, 20 and 8 change nothing.
 ///
 /// [`FaceGrid::with_settings`](crate::FaceGrid::with_settings) brings the slices itself, and cuts
 /// them.
-pub fn build_grid(mesh: Mesh, settings: Settings, grid: GridMut) -> Result<u32, Refusal> {
+pub fn build_grid(mesh: Mesh, settings: Settings, grid: GridMut) -> Result<Built, Refusal> {
     let answer = ffi::build_grid(mesh, settings, grid);
     Refusal::check_at(answer.refusal, answer.index)?;
-    Ok(answer.side)
+    Ok(Built {
+        side: answer.side,
+        held: answer.held,
+    })
 }
 
 impl Grid<'_> {
@@ -157,7 +174,7 @@ const FACES_OF_A_VERTEX: usize = 3;
 pub struct FaceGrid<'a> {
     positions: &'a [f64],
     settings: Settings,
-    side: u32,
+    built: Built,
     cell_starts: Vec<u32>,
     cell_ids: Vec<u16>,
     triangle_starts: Vec<u32>,
@@ -210,7 +227,7 @@ impl<'a> FaceGrid<'a> {
         let mut grid = FaceGrid {
             positions: mesh.positions,
             settings,
-            side: 0,
+            built: Built { side: 0, held: 0 },
             cell_starts: vec![0; 6 * side * side + 1],
             cell_ids: vec![0; FACES_OF_A_VERTEX * across * across * count],
             triangle_starts: vec![0; count + 1],
@@ -222,7 +239,7 @@ impl<'a> FaceGrid<'a> {
             triangle_starts: &mut grid.triangle_starts,
             triples: &mut grid.triples,
         };
-        grid.side = build_grid(mesh, settings, lent)?;
+        grid.built = build_grid(mesh, settings, lent)?;
         cut(&mut grid.cell_ids, &grid.cell_starts, 1);
         cut(&mut grid.triples, &grid.triangle_starts, 3);
         Ok(grid)
@@ -233,12 +250,35 @@ impl<'a> FaceGrid<'a> {
         Grid {
             positions: self.positions,
             settings: self.settings,
-            side: self.side,
+            side: self.built.side,
             cell_starts: &self.cell_starts,
             cell_ids: &self.cell_ids,
             triangle_starts: &self.triangle_starts,
             triples: &self.triples,
         }
+    }
+
+    /// How many of the builder's conversions were held at an end: see [`Built::held`].
+    ///
+    /// ```
+    /// use koshirga::{FaceGrid, MeshData};
+    ///
+    /// let held = |y| {
+    ///     let mesh = MeshData {
+    ///         positions: vec![1.0, y, 1.0],
+    ///         starts: vec![0, 0],
+    ///         entries: vec![],
+    ///     };
+    ///     FaceGrid::new(mesh.as_mesh()).map(|grid| grid.held())
+    /// };
+    /// // In front of the face +y, and almost edge-on to it: x/y and z/y are beyond the range.
+    /// assert_eq!(held(1e-30)?, 2);
+    /// // In front of neither +y nor -y.
+    /// assert_eq!(held(0.0)?, 0);
+    /// # Ok::<(), koshirga::Refusal>(())
+    /// ```
+    pub fn held(&self) -> u32 {
+        self.built.held
     }
 
     /// See [`Grid::find_nearest_vertex`].
@@ -417,6 +457,82 @@ mod tests {
         assert_eq!(refused(&POSITIONS, &[0, 1, 1, 1], &[3]), Some(4));
         assert_eq!(refused(&[0.0; 9], &[0; 4], &[]), Some(5));
         assert_eq!(refused(&POSITIONS, &[0; 4], &[]), None);
+    }
+
+    /// The count of vertices without neighbours, with each margin.
+    fn held(positions: &[f64], factor: f64) -> u32 {
+        let mesh = Mesh {
+            positions,
+            starts: &vec![0; positions.len() / 3 + 1],
+            entries: &[],
+        };
+        let [own, others @ ..] = [0, 1, 2, 3].map(|margin| {
+            let settings = Settings { factor, margin };
+            FaceGrid::with_settings(mesh, settings).unwrap().held()
+        });
+        assert_eq!(others, [own; 3]);
+        own
+    }
+
+    const LEAST: f64 = f64::from_bits(1);
+    const TWO_TO_MINUS_63: f64 = f64::from_bits(0x3c00_0000_0000_0000);
+
+    /// With side 2 the number across the cells is t + 1, rounded, for the quotient t.
+    #[test]
+    fn held_of_one_vertex() {
+        for (position, count) in [
+            ([1.0, 1.0, 1.0], 0),
+            ([1.0, 0.0, -0.0], 0),
+            // x/y and x/z: at the upper end, at the lower, and on the faces -y and -z.
+            ([1.0, LEAST, LEAST], 2),
+            ([-1.0, LEAST, LEAST], 2),
+            ([-1.0, -LEAST, -LEAST], 2),
+            // Both of one face: at the upper end, and at either.
+            ([1.0, 1.0, 1e-30], 2),
+            ([LEAST, 1.0, -1.0], 2),
+            // x/y, x/z and y/z.
+            ([1.0, 1e-30, 1e-60], 3),
+            // 2^63 is held, and 2^63 - 2^11 kept.
+            ([1.0, TWO_TO_MINUS_63, 0.0], 1),
+            ([1.0, TWO_TO_MINUS_63.next_up(), 0.0], 0),
+            // -2^63 is kept, and -2^63 - 2^11 held.
+            ([-1.0, TWO_TO_MINUS_63, 0.0], 0),
+            ([-1.0, TWO_TO_MINUS_63.next_down(), 0.0], 1),
+        ] {
+            for factor in [0.5, 1.2, 4.0] {
+                assert_eq!(held(&position, factor), count, "{position:?}");
+            }
+        }
+    }
+
+    /// Six vertices have side 2 or 4: the quotient 2^62 gives 2^62 or 2^63 across the cells.
+    #[test]
+    fn held_depends_on_the_side() {
+        let positions = [1.0, 2.0 * TWO_TO_MINUS_63, 0.0].repeat(6);
+        assert_eq!(held(&positions, 0.5), 0);
+        assert_eq!(held(&positions, 4.0), 6);
+    }
+
+    /// A refused build has no count.
+    #[test]
+    fn held_of_a_refused_build() {
+        let build = |room: usize| {
+            let mesh = Mesh {
+                positions: &[1.0, LEAST, LEAST],
+                starts: &[0, 0],
+                entries: &[],
+            };
+            let lent = GridMut {
+                cell_starts: &mut vec![0; room],
+                cell_ids: &mut vec![0; room],
+                triangle_starts: &mut vec![0; room],
+                triples: &mut vec![0; room],
+            };
+            let answer = ffi::build_grid(mesh, Settings::default(), lent);
+            (answer.refusal, answer.side, answer.index, answer.held)
+        };
+        assert_eq!(build(27), (0, 2, 0, 2));
+        assert_eq!(build(1), (8, 0, 0, 0));
     }
 
     /// Room is worked out before a pair is refused, and such a pair asks for no more of it.

@@ -171,6 +171,7 @@ impl std::error::Error for Refusal {}
 #[cfg(test)]
 mod tests {
     use super::*;
+    use crate::ffi::tests::constants;
 
     #[test]
     fn accepted_and_refused() {
@@ -213,19 +214,10 @@ mod tests {
         assert_eq!(text(20, 0), "refusal 20 (margin): it is above 3");
     }
 
-    /// The header's constants, each `KOSHIRGA_NAME = NUMBER` in a line of its own.
-    fn header_rows() -> Vec<u32> {
-        include_str!("../../include/koshirga.h")
-            .lines()
-            .filter_map(|line| line.trim().strip_prefix("KOSHIRGA_")?.split_once(" = "))
-            .map(|(_, value)| value.split([',', ' ']).next().unwrap().parse().unwrap())
-            .collect()
-    }
-
     /// The rows of the header, and no others, are known here and listed in the documentation.
     #[test]
     fn rows_are_those_of_the_header() {
-        let rows = header_rows();
+        let rows: Vec<u32> = constants("refusal").map(|(_, number)| number).collect();
         assert!(rows.iter().copied().eq((0..=13).chain(17..=20)), "{rows:?}");
         let row = |number| Refusal { number, index: 0 }.row();
         let lacking = row(u32::MAX);

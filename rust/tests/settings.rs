@@ -272,12 +272,17 @@ fn projections(Vector3 { x, y, z }: Vector3) -> [[f64; 3]; 6] {
     ]
 }
 
+/// Where u or w lies across a face of g cells.
+fn across(t: f64, d: f64, g: usize) -> f64 {
+    (t / d).mul_add(0.5, 0.5) * g as f64
+}
+
 /// Whether a vertex is placed in a cell, read once more from docs/DATASHEET.md.
 fn is_placed(v: Vector3, cell: usize, g: usize, margin: u32) -> bool {
     let (face, row, column) = (cell / (g * g), cell % (g * g) / g, cell % g);
     let [u, w, d] = projections(v)[face];
     // A conversion rounds toward zero and ends at the range's ends (IEEE 754-2019, 5.8).
-    let own = |t: f64| ((t / d).mul_add(0.5, 0.5) * g as f64) as i64;
+    let own = |t: f64| across(t, d, g) as i64;
     let is_near = |own: i64, index: usize| own.abs_diff(index as i64) <= u64::from(margin);
     d > 0.0 && is_near(own(u), row) && is_near(own(w), column)
 }
@@ -298,6 +303,43 @@ fn cells_hold_what_is_placed_there() {
                     let ids = ids.into_iter().map(usize::from);
                     assert!(ids.eq(placed), "{factor}, {margin}: cell {cell}");
                 }
+            }
+        }
+    }
+}
+
+/// How many conversions of a mesh are held at an end, counted once more.
+fn held(mesh: &MeshData, g: usize) -> usize {
+    const END: f64 = 9_223_372_036_854_775_808.0;
+    let vertices = (0..mesh.vertex_count()).map(|id| mesh.position(id));
+    let in_front = vertices.flat_map(projections).filter(|[_, _, d]| *d > 0.0);
+    in_front
+        .flat_map(|[u, w, d]| [across(u, d, g), across(w, d, g)])
+        .filter(|x| !(-END..END).contains(x))
+        .count()
+}
+
+/// The factor decides by the side how many are held. The margin changes nothing, nor does the order
+/// of the vertices.
+#[test]
+fn held_conversions() {
+    for (frequency, counts) in [(7, [0, 0, 0]), (20, [0, 0, 1]), (80, [4, 13, 39])] {
+        let mesh = LatticeGeometry::new(frequency).unwrap().mesh;
+        let backwards: Vec<u32> = (0..mesh.vertex_count() as u32).rev().collect();
+        let mut renumbered = mesh.clone();
+        renumbered
+            .apply_vertex_permutation(&mut [], &backwards, 1)
+            .unwrap();
+        assert_ne!(renumbered, mesh);
+        for (factor, count) in FACTORS.into_iter().zip(counts) {
+            let grid = FaceGrid::with_settings(mesh.as_mesh(), pair(factor, 0)).unwrap();
+            assert_eq!(held(&mesh, grid.as_grid().side as usize), count as usize);
+            for margin in 0..=3 {
+                let answered = [&mesh, &renumbered].map(|mesh| {
+                    let grid = FaceGrid::with_settings(mesh.as_mesh(), pair(factor, margin));
+                    grid.unwrap().held()
+                });
+                assert_eq!(answered, [count; 2], "{frequency}, {factor}, {margin}");
             }
         }
     }

@@ -1,11 +1,11 @@
 -- Laws of the comparisons `lt` and `le` of floats. Assumes nothing.
-use mathlib.Core.Path.{_≡_, refl, sym, _∙_}
+use mathlib.Core.Path.{_≡_, refl, sym, ap, _∙_}
 use mathlib.Core.Logic.{_⊎_, inl, inr}
-use mathlib.Core.Bool.{Bool, true, false, _&&_, _||_, or-true, true≢false, false≢true}
-use Prim.Native.Nat.{ℕ, _+_, _*_, _≤_, _<_}
+use mathlib.Core.Bool.{Bool, true, false, _&&_, _||_, and-false, or-true, true≢false, false≢true}
+use Prim.Native.Nat.{ℕ, zero, suc, _+_, _*_, _≤_, _<_}
 use native.Mathlib.Nat.{le-of-lt, eq-or-lt-of-le}
 use native.Mathlib.Omega.{arith}
-use borrow.Author.Tests.{ltb-true, ltb-false, lt-ltb, le-ltb, eq-eqb}
+use borrow.Author.Tests.{ltb-true, ltb-false, lt-ltb, le-ltb, eq-eqb, ne-eqb}
 use lib.Dec.{ltb, eqb}
 use lib.Ieee.{Float, nan, inf, fin, up, down, below, level, lt, le, isNan}
 use Rattle.binary64.proofs.Tests.{Tested, tested}
@@ -49,6 +49,38 @@ lt-asymmetric (fin s m e) (inf true) h = absurd (false≢true h)
 lt-asymmetric (fin s m e) (inf false) h = refl
 lt-asymmetric (fin s m e) (fin t n d) h = below-asymmetric s (m * up e * down d) t (n * up d * down e) h
 
+below-not-level : (s : Bool) (a : ℕ) (t : Bool) (b : ℕ) → below s a t b ≡ true → level t b s a ≡ false
+below-not-level false a false b h = rw (ne-eqb b a (λ e. omega (arith, ltb-true a b h))) refl
+below-not-level false a true b h = absurd (false≢true h)
+below-not-level true a false zero h = rw (ne-eqb 0 a (λ e. omega (arith, ltb-true 0 (a + 0) h))) refl
+below-not-level true a false (suc b) h = ap (λ (t : Bool). eqb (suc b) a && t) (ne-eqb (suc b) 0 (λ e. omega arith)) ∙ and-false (eqb (suc b) a)
+below-not-level true a true b h = rw (ne-eqb b a (λ e. omega (arith, ltb-true b a h))) refl
+
+-- What lies above is not at most.
+pub lt-not-le : (x y : Float) → lt x y ≡ true → le y x ≡ false
+unfolding lt le
+lt-not-le nan y h = absurd (false≢true h)
+lt-not-le (inf s) nan h = absurd (false≢true h)
+lt-not-le (inf true) (inf true) h = absurd (false≢true h)
+lt-not-le (inf true) (inf false) h = refl
+lt-not-le (inf false) (inf t) h = absurd (false≢true h)
+lt-not-le (inf true) (fin t n d) h = refl
+lt-not-le (inf false) (fin t n d) h = absurd (false≢true h)
+lt-not-le (fin s m e) nan h = absurd (false≢true h)
+lt-not-le (fin s m e) (inf true) h = absurd (false≢true h)
+lt-not-le (fin s m e) (inf false) h = refl
+lt-not-le (fin s m e) (fin t n d) h =
+    let a = m * up e * down d in
+    let b = n * up d * down e in
+    rw (below-asymmetric s a t b h, below-not-level s a t b h) refl
+
+pub le-not-lt : (x y : Float) → le y x ≡ true → lt x y ≡ false
+le-not-lt x y h = go (lt x y) refl
+  where
+    go : (b : Bool) → lt x y ≡ b → lt x y ≡ false
+    go true e = absurd (false≢true (sym (lt-not-le x y e) ∙ h))
+    go false e = e
+
 -- Two magnitudes of one sign, where `equal` is the test a = b or b = a.
 less-or-equal : (a b : ℕ) (equal : Bool) → (a ≡ b → equal ≡ true) → a ≤ b → (ltb a b || (equal && true)) ≡ true
 less-or-equal a b equal h l = go (eq-or-lt-of-le l)
@@ -88,3 +120,11 @@ le-of-not-lt (fin s m e) nan nx ny h = absurd (true≢false ny)
 le-of-not-lt (fin s m e) (inf true) nx ny h = absurd (true≢false h)
 le-of-not-lt (fin s m e) (inf false) nx ny h = refl
 le-of-not-lt (fin s m e) (fin t n d) nx ny h = below-or-level s (m * up e * down d) t (n * up d * down e) h
+
+-- And one that is not at most the other is above it.
+pub not-le-lt : (x y : Float) → isNan x ≡ false → isNan y ≡ false → le y x ≡ false → lt x y ≡ true
+not-le-lt x y nx ny h = go (lt x y) refl
+  where
+    go : (b : Bool) → lt x y ≡ b → lt x y ≡ true
+    go true e = e
+    go false e = absurd (true≢false (sym (le-of-not-lt y x ny nx e) ∙ h))

@@ -11,4 +11,6 @@ pub mod Integral
 pub mod FloorSteps
 pub mod Convert
 pub mod ConvertSteps
+pub mod ConversionCases
+pub mod ConvertedSteps
 pub mod NotNan

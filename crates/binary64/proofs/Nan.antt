@@ -1,6 +1,6 @@
 -- What the test x != x tells of x. Assumes nothing.
-use mathlib.Core.Path.{_≡_, refl, sym, subst, _∙_}
-use mathlib.Core.Bool.{true, false, not, true≢false}
+use mathlib.Core.Path.{_≡_, refl, sym, ap, subst, _∙_}
+use mathlib.Core.Bool.{Bool, true, false, not, true≢false}
 use lib.Dec.{T}
 use lib.Ieee.{Float, nan, inf, fin, ne, isNan}
 use lib.Ieee.Compare.{differs-from-itself, nan-differs}
@@ -14,6 +14,14 @@ unfolding isNan
 not-nan nan h = absurd (true≢false (sym nan-differs ∙ h))
 not-nan (inf s) h = refl
 not-nan (fin s m e) h = refl
+
+pub same-number : (x : Float) → isNan x ≡ false → ne x x ≡ false
+unfolding isNan
+same-number x h = go (ne x x) refl
+  where
+    go : (b : Bool) → ne x x ≡ b → ne x x ≡ false
+    go true e = absurd (true≢false (sym (ap isNan (is-nan x e)) ∙ h))
+    go false e = e
 
 -- The same as reading the bits of x asks for it.
 pub no-nan : (x : Float) → ne x x ≡ false → T (not (isNan x))

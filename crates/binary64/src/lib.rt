@@ -1,11 +1,12 @@
 // Helpers on binary64 that need no wide arithmetic: total order, floor, ceiling, conversion to a whole number.
 // IEEE 754-2019 decides; the definitions stand in specs/.
 ghost use mathlib.Core.Path.{_≡_};
+ghost use mathlib.Core.Bool.{true};
 ghost use lib.Dec.{T};
-ghost use lib.Ieee.{lt, ofBits, binary64};
+ghost use lib.Ieee.{lt, le, ofBits, binary64};
 ghost use Rattle.binary64.specs.TotalOrder.{totalOrdering, rankOfBits, rankOf};
 ghost use Rattle.binary64.specs.Integral.{floorOf, ceilOf};
-ghost use Rattle.binary64.specs.Convert.{toI64};
+ghost use Rattle.binary64.specs.Convert.{toI64, leastOfRange, aboveRange, conversionOf, convertedOf};
 
 // How one datum stands to another in the total order.
 pub enum Ordering {
@@ -88,19 +89,66 @@ fn whole_part(x: f64) -> f64
     }
 }
 
+// What became of a value that was converted to a whole number.
+pub enum Conversion {
+    // It is a whole number of the range, and is the result.
+    Kept,
+    // It had a fraction, which was cut off toward zero.
+    Cut,
+    // It lies beyond the range, and the nearer end is the result.
+    Held,
+    // It was a NaN, and the result is 0.
+    NotANumber,
+}
+
+// A converted value, with what became of it.
+pub struct Converted {
+    pub whole: i64,
+    pub how: Conversion,
+}
+
+// What became of a value of the range, by the whole number that is left of it. From 2^53 on there is no fraction to cut off.
+fn kept_or_cut(x: f64, whole: i64) -> Conversion
+    requires { ⌜ lt x aboveRange ≡ true ⌝ ∗ ⌜ le leastOfRange x ≡ true ⌝ ∗ ⌜ whole ≡ toI64 x ⌝ }
+    ensures { λ r. ⌜ r ≡ conversionOf x ⌝ }
+{
+    if whole >= 9007199254740992 {
+        Conversion::Kept
+    } else if whole <= -9007199254740992 {
+        Conversion::Kept
+    } else if whole as f64 == x {
+        Conversion::Kept
+    } else {
+        Conversion::Cut
+    }
+}
+
 // x without its fraction. What lies beyond the range of an i64 gives the nearer end, and a NaN gives 0.
-pub fn to_i64(x: f64) -> i64
-    ensures { λ r. ⌜ r ≡ toI64 x ⌝ }
+pub fn to_i64(x: f64) -> Converted
+    ensures { λ r. ⌜ r ≡ convertedOf x ⌝ }
 {
     if x < 9223372036854775808.0 {
         if x >= -9223372036854775808.0 {
-            std::num::truncating_f64_to_i64(x)
+            let whole = std::num::truncating_f64_to_i64(x);
+            Converted {
+                whole,
+                how: kept_or_cut(x, whole),
+            }
         } else {
-            i64::MIN
+            Converted {
+                whole: i64::MIN,
+                how: Conversion::Held,
+            }
         }
     } else if x != x {
-        0
+        Converted {
+            whole: 0,
+            how: Conversion::NotANumber,
+        }
     } else {
-        i64::MAX
+        Converted {
+            whole: i64::MAX,
+            how: Conversion::Held,
+        }
     }
 }

@@ -4,6 +4,9 @@ use mathlib.Core.Bool.{Bool}
 use lib.IntN.{ℤ, pos, negsuc}
 use Rattle.binary64.specs.declared.Ordering.{Ordering}
 use Rattle.binary64.specs.declared.Ordering.the-variants.{Less, Equal, Greater}
+use Rattle.binary64.specs.declared.Conversion.{Conversion}
+use Rattle.binary64.specs.declared.Conversion.the-variants as conversion
+use Rattle.binary64.specs.declared.Converted.{Converted}
 use Rattle.vector.specs.declared.Direction.{Direction}
 use Rattle.vector.specs.declared.Direction.the-variants.{Refused, Accepted}
 use Rattle.refusal.specs.declared.Verdict.{Verdict}
@@ -27,6 +30,7 @@ use Rattle.grid.specs.declared.Build.{Build}
 use Rattle.grid.specs.declared.Build.the-variants as build
 use Rattle.c_api.specs.declared.VerdictAnswer.{VerdictAnswer}
 use Rattle.c_api.specs.declared.BuildAnswer.{BuildAnswer}
+use Rattle.c_api.specs.declared.ConversionAnswer.{ConversionAnswer}
 use Rattle.c_api.specs.declared.FaceAnswer.{FaceAnswer}
 use Rattle.c_api.specs.declared.AnalyticAnswer.{AnalyticAnswer}
 use Rattle.c_api.specs.declared.VertexAnswer.{VertexAnswer}
@@ -39,6 +43,16 @@ abbrev pub orderingCode : Ordering → ℤ
 orderingCode Less = negsuc 0
 orderingCode Equal = pos 0
 orderingCode Greater = pos 1
+
+-- "kept, cut toward zero, held at an end, or not a number", in this order from 0.
+abbrev pub conversionCode : Conversion → ℕ
+conversionCode conversion.Kept = 0
+conversionCode conversion.Cut = 1
+conversionCode conversion.Held = 2
+conversionCode conversion.NotANumber = 3
+
+abbrev pub conversionAnswer : Converted → ConversionAnswer
+conversionAnswer converted = record { whole = converted .whole; how = conversionCode (converted .how) }
 
 -- 0 for a direction that row 9 lets pass, and otherwise the refusal's number.
 abbrev pub directionCode : Direction → ℕ
@@ -88,8 +102,8 @@ walkAnswer (walk.Refused reason) = record { refusal = reason .number; «entries_
 walkAnswer (walk.Walked read) = record { refusal = 0; «entries_read» = read; index = 0 }
 
 abbrev pub buildAnswer : Build → BuildAnswer
-buildAnswer (build.Refused reason) = record { refusal = reason .number; side = 0; index = reason .index }
-buildAnswer (build.Built side) = record { refusal = 0; side = side; index = 0 }
+buildAnswer (build.Refused reason) = record { refusal = reason .number; side = 0; index = reason .index; held = 0 }
+buildAnswer (build.Built side held) = record { refusal = 0; side = side; index = 0; held = held }
 
 abbrev pub nearestAnswer : Nearest → NearestAnswer
 nearestAnswer (nearest.Refused reason) = record { refusal = reason .number; id = 0; candidates = 0; distance = zeroF; index = reason .index }

@@ -6,7 +6,7 @@ ghost use lib.ListN.{length};
 ghost use lib.Ieee.{binary64};
 ghost use Rattle.binary64.specs.TotalOrder.{totalOrdering, rankOf};
 ghost use Rattle.binary64.specs.Integral.{floorOf, ceilOf};
-ghost use Rattle.binary64.specs.Convert.{toI64};
+ghost use Rattle.binary64.specs.Convert.{convertedOf};
 ghost use Rattle.fused.specs.Fused.{fusedMultiplyAdd};
 ghost use Rattle.root.specs.Root.{squareRoot};
 ghost use Rattle.vector.specs.Vector.{dotProduct, crossProduct, vectorDifference, vectorSum, vectorMultiple, vectorQuotient, squaredLength, lengthOf, normalized};
@@ -25,12 +25,13 @@ ghost use Rattle.grid.specs.Builder.{gridSlices};
 ghost use Rattle.grid.specs.Stored.{lentGrid};
 ghost use Rattle.grid_query.specs.Nearest.{nearestVertex};
 ghost use Rattle.grid_query.specs.Locate as grid_location;
-ghost use Rattle.c_api.specs.Code.{orderingCode, directionCode, signsOf, outsideOf, faceAnswer, analyticAnswer, vertexAnswer, nearestAnswer, locatedAnswer};
+ghost use Rattle.c_api.specs.Code.{orderingCode, conversionCode, conversionAnswer, directionCode, signsOf, outsideOf, faceAnswer, analyticAnswer, vertexAnswer, nearestAnswer, locatedAnswer};
 ghost use Rattle.c_api.specs.Lent.{walkLeft, walkLeftOf, renumberLeft, renumberLeftOf, latticeLeft, latticeLeftOf, buildLeft, buildLeftOf};
 use analytic::FaceChoice;
 use analytic::Location;
 use analytic::Signs;
 use barycentric::Weights;
+use binary64::Conversion;
 use binary64::Ordering;
 use grid::Build;
 use grid::Settings;
@@ -85,6 +86,14 @@ pub struct BuildAnswer {
     pub refusal: u32,
     pub side: u32,
     pub index: usize,
+    pub held: u32,
+}
+
+// A conversion is never refused: its number comes first, and what became of the value second.
+#[repr(C)]
+pub struct ConversionAnswer {
+    pub whole: i64,
+    pub how: u32,
 }
 
 #[repr(C)]
@@ -143,11 +152,27 @@ pub extern "C" fn koshirga_ceil(x: f64) -> f64
     binary64::ceil(x)
 }
 
-#[no_mangle]
-pub extern "C" fn koshirga_to_i64(x: f64) -> i64
-    ensures { λ r. ⌜ r ≡ toI64 x ⌝ }
+fn conversion_code(how: Conversion) -> u32
+    ensures { λ r. ⌜ r ≡ conversionCode how ⌝ }
 {
-    binary64::to_i64(x)
+    match how {
+        Conversion::Kept => 0,
+        Conversion::Cut => 1,
+        Conversion::Held => 2,
+        Conversion::NotANumber => 3,
+    }
+}
+
+#[no_mangle]
+pub extern "C" fn koshirga_to_i64(x: f64) -> ConversionAnswer
+    ensures { λ r. ⌜ r ≡ conversionAnswer (convertedOf x) ⌝ }
+{
+    let converted = binary64::to_i64(x);
+    let how = converted.how;
+    ConversionAnswer {
+        whole: converted.whole,
+        how: conversion_code(how),
+    }
 }
 
 #[no_mangle]
@@ -456,11 +481,13 @@ pub extern "C" fn koshirga_build_grid(
             refusal: reason.number,
             side: 0,
             index: reason.index,
+            held: 0,
         },
-        Build::Built(side) => BuildAnswer {
+        Build::Built { side, held } => BuildAnswer {
             refusal: 0,
             side,
             index: 0,
+            held,
         },
     }
 }

@@ -18,6 +18,7 @@ use Rattle.grid.specs.declared.Settings.{Settings}
 use Rattle.grid.specs.declared.Build.the-variants.{Refused, Built}
 use Rattle.grid.specs.Settings.{settingsRows}
 use Rattle.grid.specs.Cells.{sideOf, cellCount}
+use Rattle.grid.specs.Held.{heldConversions}
 use Rattle.grid.specs.Triangles.{trianglesAt}
 use Rattle.grid.specs.Grid.{GridSlices, idsIn, gridOf, slicesFit, buildRows, filled, build}
 use Rattle.grid.specs.Passes.{idsBelow, idsOfAll}
@@ -75,7 +76,7 @@ module _ (m : Mesh) (settings : Settings) where
     unfolding build buildRows
     build-refused e = let both = settings-passed settings chosen in rw (passed, both .0, both .1, e) refl
 
-    build-accepted : slicesFit (gridOf m settings) lent ≡ true → buildOutcome (Built g) (filled (gridOf m settings) lent) ≡ build m settings lent
+    build-accepted : slicesFit (gridOf m settings) lent ≡ true → buildOutcome (Built g (heldConversions (m .positions) g)) (filled (gridOf m settings) lent) ≡ build m settings lent
     unfolding build buildRows
     build-accepted e = let both = settings-passed settings chosen in rw (passed, both .0, both .1, e) refl
 
@@ -84,10 +85,10 @@ module _ (m : Mesh) (settings : Settings) where
       → after .cellIds ≡ overwrite (concatenate (cellCount g) (idsOfAll (m .positions) (settings .margin) g)) (lent .cellIds)
       → after .triangleStarts ≡ overwrite (startsOf (count m) (trianglesAt m)) (lent .triangleStarts)
       → after .triples ≡ overwrite (flatten (concatenate (count m) (trianglesAt m))) (lent .triples)
-      → buildOutcome (Built g) after ≡ build m settings lent
+      → buildOutcome (Built g (heldConversions (m .positions) g)) after ≡ build m settings lent
   unfolding filled
   build-filled passed chosen lent after e a b c d =
-      (λ t. buildOutcome (Built g) (gridSlices
+      (λ t. buildOutcome (Built g (heldConversions (m .positions) g)) (gridSlices
       ((a ∙ ap (λ (l : List ℕ). overwrite l (lent .cellStarts)) (sym cell-starts-are)) t)
       ((b ∙ ap (λ (l : List ℕ). overwrite l (lent .cellIds)) (sym cell-ids-are)) t)
       ((c ∙ ap (λ (l : List ℕ). overwrite l (lent .triangleStarts)) (sym triangle-starts-are)) t)

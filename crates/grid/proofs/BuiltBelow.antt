@@ -34,10 +34,10 @@ grid-ids-below m settings facts = record {
       triangle-of-member m facts (corner .0) (at-vertex m (listed .0) (corner .0) (corner .1) .0) .below _ (corner .2);
 }
 
-built-adjacency : (m : Mesh) (settings : Settings) (lent : GridSlices) (g : ℕ) → build m settings lent .answered ≡ Built g → AdjacencyFacts m
+built-adjacency : (m : Mesh) (settings : Settings) (lent : GridSlices) (g held : ℕ) → build m settings lent .answered ≡ Built g held → AdjacencyFacts m
 unfolding buildRows
-built-adjacency m settings lent g h = mesh-facts m (then-passed (meshRows m) _ (built-rows m settings lent g h) .0) .adjacency
+built-adjacency m settings lent g held h = mesh-facts m (then-passed (meshRows m) _ (built-rows m settings lent g held h) .0) .adjacency
 
 -- every accepted build: what it wrote is its slices, cut to the grid's lengths
-pub built-below : (m : Mesh) (settings : Settings) (lent : GridSlices) (g : ℕ) → build m settings lent .answered ≡ Built g → BuiltFacts (count m) (cut settings (count m) g (build m settings lent .slices))
-built-below m settings lent g h = rw (cut-build m settings lent g h) (grid-ids-below m settings (built-adjacency m settings lent g h))
+pub built-below : (m : Mesh) (settings : Settings) (lent : GridSlices) (g held : ℕ) → build m settings lent .answered ≡ Built g held → BuiltFacts (count m) (cut settings (count m) g (build m settings lent .slices))
+built-below m settings lent g held h = rw (cut-build m settings lent g held h) (grid-ids-below m settings (built-adjacency m settings lent g held h))

@@ -1,16 +1,18 @@
--- Laws of the dominant axis: magnitudes that keep a negative zero compare as absolute values do. Assumes nothing.
-use Prim.Native.Nat.{ℕ, zero, suc, _+_, _*_, _<_}
+-- Laws of the dominant axis: magnitudes that keep a negative zero compare as absolute values do. Of the faces a point is in front of: at most `three-faces`. Assumes nothing.
+use Prim.Native.Nat.{ℕ, zero, suc, _+_, _*_, _≤_, _<_}
 use native.Mathlib.Nat.{zero-add, zero-mul, mul-pos}
 use native.Mathlib.Omega.{arith}
 use mathlib.Core.Path.{_≡_, refl, sym, ap, _∙_}
 use mathlib.Core.Logic.{_⊎_, inl, inr}
-use mathlib.Core.Bool.{Bool, true, false, cond, _&&_, _||_}
+use mathlib.Core.Bool.{Bool, true, false, cond, _&&_, _||_, false≢true}
 use lib.Dec.{ltb, eqb}
 use lib.IntN.{ℤ}
 use lib.Ieee.{Float, nan, inf, fin, neg, lt, le, up, down, below, level}
 use lib.Ieee.Fits.{up-pos}
 use borrow.Author.Tests.{lt-ltb, le-ltb, ne-eqb}
-use Rattle.grid.specs.CubeFace.{absolute, zeroFloat}
+use Rattle.sequences.specs.Range.{sumBelow}
+use Rattle.vector.specs.declared.Vector3.{Vector3}
+use Rattle.grid.specs.CubeFace.{faceProjection, absolute, zeroFloat}
 
 -- ---- a comparison does not see the sign of a zero
 zero-left : (t : Bool) (a b : ℕ) → a ≡ 0 → (below true a t b || level true a t b) ≡ (below false a t b || level false a t b)
@@ -81,3 +83,29 @@ right-alike x y (inr z) = ap (λ (k : Float). le x k) (z .1) ∙ le-zero-right (
 
 pub magnitudes-compare : (x y : Float) → le (magnitudeByTest x) (magnitudeByTest y) ≡ le (absolute x) (absolute y)
 magnitudes-compare x y = left-alike x (magnitudeByTest y) (magnitude-cases x) ∙ right-alike (absolute x) y (magnitude-cases y)
+
+-- ---- of two opposite faces a point is in front of one at most
+-- of a number and its negation at most one is above 0
+not-both : (x : Float) → lt zeroFloat x ≡ true → lt zeroFloat (neg x) ≡ false
+unfolding lt neg
+not-both nan h = absurd (false≢true h)
+not-both (inf true) h = absurd (false≢true h)
+not-both (inf false) h = refl
+not-both (fin true m e) h = absurd (false≢true h)
+not-both (fin false m e) h = refl
+
+module _ (v : Vector3) (each : ℕ → ℕ) (most : ℕ) (few : (face : ℕ) → each face ≤ most) (none : (face : ℕ) → lt zeroFloat (faceProjection face v .d) ≡ false → each face ≡ 0) where
+  abbrev inFront : ℕ → Bool
+  inFront face = lt zeroFloat (faceProjection face v .d)
+
+  opposite-most : (face other : ℕ) → (inFront face ≡ true → inFront other ≡ false) → each face + each other ≤ most
+  opposite-most face other apart = go (inFront face) refl
+    where
+      go : (b : Bool) → inFront face ≡ b → each face + each other ≤ most
+      go true e = omega (arith, few face, none other (apart e))
+      go false e = omega (arith, few other, none face e)
+
+  -- what is nothing behind a face, and on each at most so much, is at most three times that on all six
+  pub three-faces : sumBelow each 6 ≤ 3 * most
+  unfolding sumBelow faceProjection
+  three-faces = omega (arith, opposite-most 0 1 (not-both (v .x)), opposite-most 2 3 (not-both (v .y)), opposite-most 4 5 (not-both (v .z)))

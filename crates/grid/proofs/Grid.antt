@@ -15,6 +15,7 @@ use Rattle.grid.specs.declared.Build.the-variants.{Built}
 use Rattle.grid.specs.declared.Settings.{Settings}
 use Rattle.grid.specs.Cells.{sideOf, cellCount}
 use Rattle.grid.specs.Triangles.{trianglesAt}
+use Rattle.grid.specs.Held.{heldConversions}
 use Rattle.grid.specs.Grid.{GridSlices, BuildOutcome, idsIn, gridOf, buildRows, filled, build, cut}
 use Rattle.grid.proofs.Triangles.{triples-length}
 
@@ -45,15 +46,26 @@ module _ (m : Mesh) (settings : Settings) where
   triangle-starts-last = ap (λ (k : ℕ). k * 3) (starts-at (count m) (trianglesAt m) (count m) (omega arith)) ∙ sym triples-total
 
   -- ---- an accepted call
-  pub built-rows : (lent : GridSlices) (g : ℕ) → build m settings lent .answered ≡ Built g → buildRows m settings lent ≡ Passed
+  pub built-rows : (lent : GridSlices) (g held : ℕ) → build m settings lent .answered ≡ Built g held → buildRows m settings lent ≡ Passed
   unfolding build
-  built-rows lent g h =
-      answer-passed (λ (o : BuildOutcome). o .answered ≡ Built g) (buildRows m settings lent) _ _ h
+  built-rows lent g held h =
+      answer-passed (λ (o : BuildOutcome). o .answered ≡ Built g held) (buildRows m settings lent) _ _ h
       (λ reason e. let z : _≡_ {A = ℕ} 0 1 = cc in omega arith)
 
-  built-side : (lent : GridSlices) (g : ℕ) → buildRows m settings lent ≡ Passed → build m settings lent .answered ≡ Built g → g ≡ gridOf m settings .side
-  unfolding build gridOf
-  built-side lent g ok h = let e : Built (sideOf (settings .factor) (count m)) ≡ Built g = rw ok at h in cc
+  module _ (lent : GridSlices) (g held : ℕ) (ok : buildRows m settings lent ≡ Passed) (h : build m settings lent .answered ≡ Built g held) where
+    built-answer : Built (sideOf (settings .factor) (count m)) (heldConversions (m .positions) (sideOf (settings .factor) (count m))) ≡ Built g held
+    unfolding build
+    built-answer = rw ok at h
+
+    built-side : g ≡ gridOf m settings .side
+    unfolding gridOf
+    built-side = let e = built-answer in cc
+
+    built-count : held ≡ heldConversions (m .positions) (sideOf (settings .factor) (count m))
+    built-count = let e = built-answer in cc
+
+  pub built-held : (lent : GridSlices) (g held : ℕ) → build m settings lent .answered ≡ Built g held → held ≡ heldConversions (m .positions) (sideOf (settings .factor) (count m))
+  built-held lent g held h = built-count lent g held (built-rows lent g held h) h
 
   built-slices : (lent : GridSlices) → buildRows m settings lent ≡ Passed → build m settings lent .slices ≡ filled (gridOf m settings) lent
   unfolding build
@@ -78,7 +90,7 @@ module _ (m : Mesh) (settings : Settings) where
       rw (cell-starts, cell-ids, triangle-starts, triples)
       (λ t. record { settings = sym settings-kept t; side = G .side; cellStarts = G .cellStarts; cellIds = G .cellIds; triangleStarts = G .triangleStarts; triples = G .triples })
 
-  pub cut-build : (lent : GridSlices) (g : ℕ) → build m settings lent .answered ≡ Built g → cut settings (count m) g (build m settings lent .slices) ≡ gridOf m settings
-  cut-build lent g h =
-      let ok = built-rows lent g h in
-      rw (built-side lent g ok h, built-slices lent ok) (cut-filled lent)
+  pub cut-build : (lent : GridSlices) (g held : ℕ) → build m settings lent .answered ≡ Built g held → cut settings (count m) g (build m settings lent .slices) ≡ gridOf m settings
+  cut-build lent g held h =
+      let ok = built-rows lent g held h in
+      rw (built-side lent g held ok h, built-slices lent ok) (cut-filled lent)

@@ -3,6 +3,7 @@ pub mod SettingsRows
 pub mod SideBound
 pub mod SideLeast
 pub mod SideTested
+pub mod Held
 pub mod Placing
 pub mod Passes
 pub mod TrianglePass

@@ -3,13 +3,14 @@ use Prim.Native.Nat.{ℕ, zero, suc, _+_, _-_, _*_, _/_, _%_, _≤_}
 use native.Mathlib.Nat.{zero-mul, mul-le-mul}
 use native.Mathlib.Omega.{arith}
 use mathlib.Core.Path.{_≡_, refl, ap, _∙_}
-use mathlib.Core.Bool.{Bool, true, false, _&&_, false≢true}
+use mathlib.Core.Bool.{true, false, _&&_}
 use mathlib.Core.List.{List, List·Memᴰ}
 use lib.Dec.{leb}
 use lib.ListN.{length}
 use lib.IntN.{ℤ, pos, negsuc}
-use lib.Ieee.{Float, nan, inf, fin, neg, lt}
+use lib.Ieee.{Float, lt}
 use borrow.Author.Tests.{leb-true, le-leb}
+use Rattle.sequences.specs.Range.{sumBelow}
 use Rattle.sequences.specs.Starts.{startOf}
 use Rattle.sequences.proofs.Range.{and-split, and-intro}
 use Rattle.binary64.specs.Convert.{toI64}
@@ -24,6 +25,7 @@ use Rattle.grid.specs.Cells.{sideOf, cellCount, acrossCells, near, bread
 use Rattle.grid.specs.Placing.{Placed}
 use Rattle.grid.specs.Passes.{idsDuring, idsOfAll}
 use Rattle.grid.specs.Grid.{idsIn, gridOf}
+use Rattle.grid.proofs.CubeFace.{three-faces}
 use Rattle.grid.proofs.Placing.{some-placement}
 use Rattle.grid.proofs.Passes.{total-none, total-face, area-few, total-vertex, total-all}
 use Rattle.grid.proofs.Cells.{id-placed, placed-id}
@@ -56,15 +58,6 @@ margin-grows m factor margin wider cell v more h =
     placed-id m (settingsWith factor wider) cell v (placed .0) (placed-grows margin wider _ cell (positionOf (m .positions) v) more (placed .1))
 
 -- ---- three faces
--- of a number and its negation at most one is above 0
-not-both : (x : Float) → lt zeroFloat x ≡ true → lt zeroFloat (neg x) ≡ false
-unfolding lt neg
-not-both nan h = absurd (false≢true h)
-not-both (inf true) h = absurd (false≢true h)
-not-both (inf false) h = refl
-not-both (fin true m e) h = absurd (false≢true h)
-not-both (fin false m e) h = refl
-
 module _ (positions : List Float) (margin g v : ℕ) where
   abbrev place : (face : ℕ) → (p : Placement) × Placed margin g face (positionOf positions v) p × (lt zeroFloat (faceProjection face (positionOf positions v) .d) ≡ false → p .«end_row» ≡ p .«first_row»)
   place face = some-placement margin g face (positionOf positions v)
@@ -73,24 +66,14 @@ module _ (positions : List Float) (margin g v : ℕ) where
   abbrev area : ℕ → ℕ
   area face = let p = place face .0 in (p .«end_row» - p .«first_row») * (p .«end_column» - p .«first_column»)
 
-  abbrev inFront : ℕ → Bool
-  inFront face = lt zeroFloat (faceProjection face (positionOf positions v) .d)
-
   area-most : (face : ℕ) → area face ≤ breadth margin * breadth margin
   area-most face = area-few positions margin g v face (place face .0) (place face .1)
 
-  area-none : (face : ℕ) → inFront face ≡ false → area face ≡ 0
+  area-none : (face : ℕ) → lt zeroFloat (faceProjection face (positionOf positions v) .d) ≡ false → area face ≡ 0
   area-none face behind =
       let p = place face .0 in
       let rows : p .«end_row» - p .«first_row» ≡ 0 = omega (arith, place face .2 behind) in
       ap (λ (k : ℕ). k * (p .«end_column» - p .«first_column»)) rows ∙ zero-mul (p .«end_column» - p .«first_column»)
-
-  opposite-most : (face other : ℕ) → (inFront face ≡ true → inFront other ≡ false) → area face + area other ≤ breadth margin * breadth margin
-  opposite-most face other apart = go (inFront face) refl
-    where
-      go : (b : Bool) → inFront face ≡ b → area face + area other ≤ breadth margin * breadth margin
-      go true e = omega (arith, area-most face, area-none other (apart e))
-      go false e = omega (arith, area-most other, area-none face e)
 
   abbrev total : ℕ → ℕ
   total face = startOf (idsDuring positions margin g v (face * (g * g))) (cellCount g)
@@ -99,9 +82,8 @@ module _ (positions : List Float) (margin g v : ℕ) where
   total-next face few = total-face positions margin g v face (total face) (place face .0) (place face .1) (omega arith) refl
 
   six-faces : total 6 ≤ total 0 + cellsOfVertex margin
-  unfolding faceProjection
+  unfolding sumBelow
   six-faces =
-      let at = positionOf positions v in
       omega (
         arith,
         total-next 0 (omega arith),
@@ -110,9 +92,7 @@ module _ (positions : List Float) (margin g v : ℕ) where
         total-next 3 (omega arith),
         total-next 4 (omega arith),
         total-next 5 (omega arith),
-        opposite-most 0 1 (not-both (at .x)),
-        opposite-most 2 3 (not-both (at .y)),
-        opposite-most 4 5 (not-both (at .z)),
+        three-faces (positionOf positions v) area (breadth margin * breadth margin) area-most area-none,
       )
 
 -- ---- all vertices

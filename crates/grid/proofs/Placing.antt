@@ -21,7 +21,9 @@ use Rattle.grid.specs.declared.Placement.{Placement}
 use Rattle.grid.specs.CubeFace.{faceProjection, zeroFloat}
 use Rattle.grid.specs.Settings.{greatestMargin}
 use Rattle.grid.specs.Cells.{near, acrossCells, placedIn}
+use Rattle.grid.specs.Held.{heldOn}
 use Rattle.grid.specs.Placing.{CellsBelow, Near, Placed, within}
+use Rattle.grid.proofs.Held.{held-behind}
 
 abbrev range : ℕ → ℕ → CellRange
 range first end = record { first = first; end = end }
@@ -143,13 +145,13 @@ module _ (margin g face i j : ℕ) (li : i < g) (lj : j < g) where
   unfolding placedIn
   placed-by-face v = rw (face-of-cell, row-of-cell, column-of-cell) refl
 
-abbrev placement : CellRange → CellRange → Placement
-placement rows columns = record { «first_row» = rows .first; «end_row» = rows .end; «first_column» = columns .first; «end_column» = columns .end }
+abbrev placement : CellRange → CellRange → ℕ → Placement
+placement rows columns held = record { «first_row» = rows .first; «end_row» = rows .end; «first_column» = columns .first; «end_column» = columns .end; held = held }
 
 -- a face that the vertex is in front of
-pub placed-near : (margin g face : ℕ) (v : Vector3) (p : Projected) (rows columns : CellRange) → p ≡ faceProjection face v → lt zeroFloat (p .d) ≡ true
-    → Near margin g (toI64 (acrossCells g (p .u) (p .d))) rows → Near margin g (toI64 (acrossCells g (p .w) (p .d))) columns → Placed margin g face v (placement rows columns)
-placed-near margin g face v p rows columns e front r c = record {
+pub placed-near : (margin g face : ℕ) (v : Vector3) (p : Projected) (rows columns : CellRange) (held : ℕ) → p ≡ faceProjection face v → lt zeroFloat (p .d) ≡ true
+    → Near margin g (toI64 (acrossCells g (p .u) (p .d))) rows → Near margin g (toI64 (acrossCells g (p .w) (p .d))) columns → held ≡ heldOn g v face → Placed margin g face v (placement rows columns held)
+placed-near margin g face v p rows columns held e front r c h = record {
   rows-ordered = r .ordered;
   rows-inside = r .inside;
   rows-few = r .few;
@@ -159,10 +161,11 @@ placed-near margin g face v p rows columns e front r c = record {
   exact = λ i j li lj. placed-by-face margin g face i j li lj v
       ∙ (λ t. let q = sym e t in lt zeroFloat (q .d) && (near margin (toI64 (acrossCells g (q .u) (q .d))) i && near margin (toI64 (acrossCells g (q .w) (q .d))) j))
       ∙ (λ t. front t && (r .exact i li t && c .exact j lj t));
+  held-exact = h;
 }
 
 -- one that it is not in front of
-pub placed-nowhere : (margin g face : ℕ) (v : Vector3) (p : Projected) → p ≡ faceProjection face v → lt zeroFloat (p .d) ≡ false → Placed margin g face v (placement (range 0 0) (range 0 0))
+pub placed-nowhere : (margin g face : ℕ) (v : Vector3) (p : Projected) → p ≡ faceProjection face v → lt zeroFloat (p .d) ≡ false → Placed margin g face v (placement (range 0 0) (range 0 0) 0)
 placed-nowhere margin g face v p e behind = record {
   rows-ordered = omega arith;
   rows-inside = omega arith;
@@ -174,6 +177,7 @@ placed-nowhere margin g face v p e behind = record {
       ∙ (λ t. let q = sym e t in lt zeroFloat (q .d) && (near margin (toI64 (acrossCells g (q .u) (q .d))) i && near margin (toI64 (acrossCells g (q .w) (q .d))) j))
       ∙ (λ t. behind t && (near margin (toI64 (acrossCells g (p .u) (p .d))) i && near margin (toI64 (acrossCells g (p .w) (p .d))) j))
       ∙ sym (λ t. (le-leb 0 i (omega arith) t && le-ltb i 0 (omega arith) t) && within 0 0 j);
+  held-exact = sym (held-behind g face v (ap (λ (q : Projected). lt zeroFloat (q .d)) (sym e) ∙ behind));
 }
 
 -- every vertex is placed on every face, without rows on one that it is not in front of
@@ -187,8 +191,8 @@ some-placement margin g face v = go (lt zeroFloat (faceProjection face v .d)) re
     go true e =
         let rows = near-range margin g (toI64 (acrossCells g (seen .u) (seen .d))) in
         let columns = near-range margin g (toI64 (acrossCells g (seen .w) (seen .d))) in
-        (placement (rows .0) (columns .0), placed-near margin g face v seen (rows .0) (columns .0) refl e (rows .1) (columns .1), λ h. absurd (true≢false (sym e ∙ h)))
-    go false e = (placement (range 0 0) (range 0 0), placed-nowhere margin g face v seen refl e, λ h. refl)
+        (placement (rows .0) (columns .0) (heldOn g v face), placed-near margin g face v seen (rows .0) (columns .0) (heldOn g v face) refl e (rows .1) (columns .1) refl, λ h. absurd (true≢false (sym e ∙ h)))
+    go false e = (placement (range 0 0) (range 0 0) 0, placed-nowhere margin g face v seen refl e, λ h. refl)
 
 pub placed-same : {margin g face : ℕ} {v w : Vector3} {p : Placement} → w ≡ v → Placed margin g face w p → Placed margin g face v p
 placed-same {margin} {g} {face} {p} e h = subst (λ (x : Vector3). Placed margin g face x p) e h

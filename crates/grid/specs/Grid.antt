@@ -7,7 +7,6 @@ use lib.ListN.{length, getD, take}
 use Rattle.sequences.specs.Tabulate.{overwrite}
 use Rattle.sequences.specs.Starts.{concatenate, startsOf}
 use Rattle.sequences.specs.Filter.{filterRange}
-use Rattle.refusal.specs.declared.Refusal.{Refusal}
 use Rattle.refusal.specs.declared.Verdict.{Verdict}
 use Rattle.refusal.specs.declared.Verdict.the-variants.{Passed}
 use Rattle.refusal.specs.Refusal.{refusal, row, then, answer}
@@ -18,6 +17,7 @@ use Rattle.grid.specs.declared.Build.{Build}
 use Rattle.grid.specs.declared.Build.the-variants.{Refused, Built}
 use Rattle.grid.specs.Settings.{settingsRows}
 use Rattle.grid.specs.Cells.{sideOf, cellCount, placedIn}
+use Rattle.grid.specs.Held.{heldConversions}
 use Rattle.grid.specs.Triangles.{trianglesAt}
 
 -- "A grid is g, cell starts (u32, 6g² + 1), cell ids (u16), triangle starts (u32, count + 1, in whole triples) and triples (u16, three ascending ids each, in the order of `extract_faces`), beside the positions."
@@ -70,7 +70,7 @@ filled grid lent = record {
   triples = overwrite (grid .triples) (lent .triples);
 }
 
--- The whole outcome of a call: its answer, with g where it is accepted, and the lent slices at exit.
+-- The whole outcome of a call: its answer, with g and the count of conversions held at an end (W-207) where it is accepted, and the lent slices at exit.
 pub record BuildOutcome : Type 0 where
   pub answered : Build
   pub slices : GridSlices
@@ -78,7 +78,7 @@ pub record BuildOutcome : Type 0 where
 unfoldable pub build : Mesh → Settings → GridSlices → BuildOutcome
 build m settings lent =
     answer (buildRows m settings lent) (λ reason. record { answered = Refused reason; slices = lent })
-    (record { answered = Built (sideOf (settings .factor) (count m)); slices = filled (gridOf m settings) lent })
+    (record { answered = Built (sideOf (settings .factor) (count m)) (heldConversions (m .positions) (sideOf (settings .factor) (count m))); slices = filled (gridOf m settings) lent })
 
 -- What was built for n vertices with the side g, "its slices cut to a grid's lengths".
 unfoldable pub cut : Settings → ℕ → ℕ → GridSlices → Grid

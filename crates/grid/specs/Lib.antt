@@ -1,6 +1,7 @@
 pub mod CubeFace
 pub mod Settings
 pub mod Cells
+pub mod Held
 pub mod Triangles
 pub mod Grid
 pub mod Placing

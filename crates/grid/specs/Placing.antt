@@ -8,6 +8,7 @@ use Rattle.vector.specs.declared.Vector3.{Vector3}
 use Rattle.grid.specs.declared.CellRange.{CellRange}
 use Rattle.grid.specs.declared.Placement.{Placement}
 use Rattle.grid.specs.Cells.{near, breadth, placedIn}
+use Rattle.grid.specs.Held.{heldOn}
 
 -- c lies from `first` up to `end`, which is not in the range.
 abbrev pub within : ℕ → ℕ → ℕ → Bool
@@ -25,7 +26,7 @@ pub record Near (margin g : ℕ) (z : ℤ) (range : CellRange) : Type 0 where
   pub few : range .end ≤ range .first + breadth margin
   pub exact : (c : ℕ) → c < g → near margin z c ≡ within (range .first) (range .end) c
 
--- The rows and columns are exactly the cells of the face that the vertex v is placed in: its "surroundings inside the face".
+-- The rows and columns are exactly the cells of the face that the vertex v is placed in, its "surroundings inside the face"; and `held` counts its conversions there that were held at an end.
 pub record Placed (margin g face : ℕ) (v : Vector3) (p : Placement) : Type 0 where
   pub rows-ordered : p .«first_row» ≤ p .«end_row»
   pub rows-inside : p .«end_row» ≤ g
@@ -34,3 +35,4 @@ pub record Placed (margin g face : ℕ) (v : Vector3) (p : Placement) : Type 0 w
   pub columns-inside : p .«end_column» ≤ g
   pub columns-few : p .«end_column» ≤ p .«first_column» + breadth margin
   pub exact : (i j : ℕ) → i < g → j < g → placedIn margin g (face * (g * g) + (i * g + j)) v ≡ (within (p .«first_row») (p .«end_row») i && within (p .«first_column») (p .«end_column») j)
+  pub held-exact : p .held ≡ heldOn g v face

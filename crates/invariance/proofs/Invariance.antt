@@ -1,6 +1,6 @@
--- Demand 3: what a list of renumberings keeps. Assumes nothing.
+-- Demand 3: what a list of renumberings keeps. Beside it, `renumbering-same-room` and `renumbering-same-held`. Assumes nothing.
 use Prim.Native.Nat.{ℕ, _+_, _*_, _/_, _<_}
-use mathlib.Core.Path.{_≡_, ap, _∙_}
+use mathlib.Core.Path.{_≡_, sym, ap, _∙_}
 use mathlib.Core.Logic.{_⊎_, inl, inr}
 use mathlib.Core.Bool.{true, false}
 use mathlib.Core.List.{List}
@@ -18,8 +18,12 @@ use Rattle.renumber.specs.Renumber.{Call, entriesPerVertexFit, longestLength, r
 use Rattle.renumber.proofs.RenumberedMesh.{renumbered, renumbered-facts}
 use Rattle.renumber.proofs.RenumberedData.{fit-single, fit-paired, renumbered-data-tail, renumbered-single, renumbered-pair}
 use Rattle.grid.specs.declared.Settings.{Settings}
-use Rattle.grid.specs.Grid.{GridSlices, buildRows}
-use Rattle.grid.proofs.Grid.{cut-build}
+use Rattle.grid.specs.declared.Build.the-variants.{Built}
+use Rattle.grid.specs.Cells.{sideOf}
+use Rattle.grid.specs.Held.{heldConversions}
+use Rattle.grid.specs.Grid.{GridSlices, buildRows, build}
+use Rattle.grid.proofs.Grid.{cut-build, built-held}
+use Rattle.grid.proofs.Held.{same-held}
 use Rattle.grid.proofs.Room.{same-build-rows}
 use Rattle.invariance.specs.Calls.{State, afterCalls, accumulatedPermutation, AcceptedHave}
 use Rattle.invariance.specs.Claim.{Invariant}
@@ -61,8 +65,8 @@ renumbered-invariant m values facts mutual-lists p state r AllHave d =
       paired = λ have s v w ls lv lw. rw (d (count m) have .moved (fit-paired (count m))) (renumbered-pair h values s v w ls lv lw);
       data-length = r .data-length;
       tail = λ each have. values-tail m values (facts .adjacency) each p state h (d each have);
-      grids = λ settings lent lent₁ g g₁ built built₁.
-          rw (cut-build m settings lent g built, cut-build (renumberedMesh p m) settings lent₁ g₁ built₁) (same-grids m (renumberedMesh p m) settings facts facts₁ new mutual-lists);
+      grids = λ settings lent lent₁ g g₁ held held₁ built built₁.
+          rw (cut-build m settings lent g held built, cut-build (renumberedMesh p m) settings lent₁ g₁ held₁ built₁) (same-grids m (renumberedMesh p m) settings facts facts₁ new mutual-lists);
     })
 
 -- ---- "Demand 3 is one claim about the whole list of calls, the empty list included, and not a claim for each call."
@@ -82,3 +86,16 @@ renumbering-same-room m values calls rows mutual-lists no-repeat settings lent =
     let r = after-calls m values (facts .adjacency) calls in
     let p = accumulatedPermutation (record { mesh = m; values = values }) calls in
     rw (r .mesh) (same-build-rows m (renumberedMesh p m) settings facts (renumbered-facts m facts (r .permutation)) mutual-lists no-repeat (renumbered m (facts .adjacency) (r .permutation)) lent)
+
+-- A mesh after the list has as many conversions held at an end as before, whatever slices the builder was lent, as long as it accepted both.
+pub renumbering-same-held : (m : Mesh) (values : List Float) (calls : List Call) → meshRows m ≡ Passed → (settings : Settings) (lent lent₁ : GridSlices) (g g₁ held held₁ : ℕ)
+    → build m settings lent .answered ≡ Built g held → build (afterCalls (record { mesh = m; values = values }) calls .mesh) settings lent₁ .answered ≡ Built g₁ held₁ → held₁ ≡ held
+renumbering-same-held m values calls rows settings lent lent₁ g g₁ held held₁ built built₁ =
+    let facts = mesh-facts m rows in
+    let r = after-calls m values (facts .adjacency) calls in
+    let new = renumbered m (facts .adjacency) (r .permutation) in
+    let after = renumberedMesh (accumulatedPermutation (record { mesh = m; values = values }) calls) m in
+    built-held after settings lent₁ g₁ held₁ (rw (r .mesh) at built₁)
+    ∙ ap (λ (n : ℕ). heldConversions (after .positions) (sideOf (settings .factor) n)) (new .same-count)
+    ∙ same-held new (sideOf (settings .factor) (count m))
+    ∙ sym (built-held m settings lent g held built)

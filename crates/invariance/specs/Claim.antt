@@ -80,5 +80,5 @@ pub record Invariant (m : Mesh) (values : List Float) (m₁ : Mesh) (values₁ :
   pub data-length : length values₁ ≡ length values
   pub tail : (each : ℕ) → AllHave each → drop (length values / (count m * each) * (count m * each)) values₁ ≡ drop (length values / (count m * each) * (count m * each)) values
   -- Whatever slices the builder was lent, as long as it accepted both. "whichever pair is chosen, grids before and after renumbering are built with the same pair" (W-210)
-  pub grids : (settings : Settings) (lent lent₁ : GridSlices) (g g₁ : ℕ) → build m settings lent .answered ≡ Built g → build m₁ settings lent₁ .answered ≡ Built g₁
+  pub grids : (settings : Settings) (lent lent₁ : GridSlices) (g g₁ held held₁ : ℕ) → build m settings lent .answered ≡ Built g held → build m₁ settings lent₁ .answered ≡ Built g₁ held₁
       → SameGrids m m₁ p (cut settings (count m) g (build m settings lent .slices)) (cut settings (count m₁) g₁ (build m₁ settings lent₁ .slices))

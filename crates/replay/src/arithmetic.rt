@@ -25,17 +25,19 @@ fn has_pattern(n: i64, pattern: u64) -> bool {
     !n == (rest as i64)
 }
 
-// x; its floor, its ceiling, and x as a signed 64-bit number.
+// x; its floor, its ceiling, x as a signed 64-bit number, and what became of it there.
 pub fn integral(text: &[u8], start: usize) -> Cursor {
     let mut operands = [0.0f64; 1];
     let cursor = records::read_f64s(text, Cursor::new(start), &mut operands);
     let x = operands[0];
     let behind_floor = records::expect_f64(text, cursor, c_api::koshirga_floor(x));
     let behind_ceil = records::expect_f64(text, behind_floor, c_api::koshirga_ceil(x));
-    let converted = records::take(text, behind_ceil);
-    converted
+    let whole = records::take(text, behind_ceil);
+    let converted = c_api::koshirga_to_i64(x);
+    let behind_whole = whole
         .cursor()
-        .only_if(has_pattern(c_api::koshirga_to_i64(x), converted.value))
+        .only_if(has_pattern(converted.whole, whole.value));
+    records::expect_u32(text, behind_whole, converted.how)
 }
 
 // Two bit patterns; 0 where the first is below the second in the total order, 1 where they are the same, 2 where it is above.

@@ -75,11 +75,12 @@ pub fn walk(
     )
 }
 
-// The refusal, the side, the index.
+// The refusal, the side, the index, the count of conversions held.
 pub fn expect_built(text: &[u8], cursor: Cursor, answer: BuildAnswer) -> Cursor {
     let answered = records::expect_u32(text, cursor, answer.refusal);
     let side = records::expect_u32(text, answered, answer.side);
-    records::expect(text, side, answer.index as u64)
+    let index = records::expect(text, side, answer.index as u64);
+    records::expect_u32(text, index, answer.held)
 }
 
 // The builder's answer, and the four slices after the call.

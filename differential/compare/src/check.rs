@@ -41,8 +41,9 @@ impl Topic {
 pub enum Judge {
     /// What the Rust returned, or a table of its own.
     Rust,
-    /// What the Rust doesn't return, worked out beside it: from its grid or order, or by the text of
-    /// document 01 and of W-210, whose other pairs of factor and margin the Rust has not.
+    /// What the Rust doesn't return, worked out beside it: from its grid, order or conversions, or
+    /// by the text of document 01, of W-207 and of W-210, whose other pairs of factor and margin
+    /// the Rust has not.
     Beside,
     /// The text of the rows: refusals, and answers on damaged grids.
     Rows,

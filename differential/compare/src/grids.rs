@@ -1,16 +1,18 @@
 //! The grids of all 80 lattices and of random meshes beside the Rust's at the usual pair, and at
-//! other pairs beside a second reading; the builder's refusals beside the rows' text.
+//! other pairs beside a second reading; the count of conversions held beside a loop over the
+//! numbers that the Rust converts; the builder's refusals beside the rows' text.
 
 use crate::check::{Check, Judge, Kinds, Rows, Tally};
 use crate::directions::row_9;
+use crate::helpers::is_held;
 use crate::meshes::{Flat, Lattice, Lists, FREQUENCIES};
 use crate::pairs::{self, kinds_of_pair, pair, settings_row, USUAL};
-use crate::patterns::Random;
+use crate::patterns::{Random, BIAS, SIGNIFICAND_DIGITS};
 use crate::queries::Slices;
 use crate::rows::{adjacency_row, by_hand, damage, kinds_of_starts, Reason};
 use crate::walk::lists_of;
 use icotable_oracle as rust;
-use koshirga::{GridMut, Settings, Vector3};
+use koshirga::{Built, GridMut, Settings, Vector3};
 
 /// Random meshes, and damaged ones.
 const MESHES: usize = 20_000;
@@ -18,6 +20,9 @@ const MESHES: usize = 20_000;
 const ABOUT_AN_AXIS: usize = 300;
 const ABOUT_AN_AXIS_COUNT: u64 = 1_000;
 const ABOUT_AN_AXIS_PAIRS: usize = 4;
+/// Random meshes with vertices almost edge-on to a cube face, and frequencies of such lattices.
+const EDGE_ON: usize = 6_000;
+const EDGE_ON_LATTICES: [usize; 9] = [1, 2, 3, 5, 8, 13, 21, 34, 80];
 /// The most vertices that row 2 lets pass.
 const GREATEST_COUNT: usize = 65_536;
 /// The ends of both ranges.
@@ -31,6 +36,8 @@ pub fn checks() -> Vec<Check> {
         Check::new("random meshes, other pairs", random_meshes_at_pairs),
         Check::new("meshes about an axis", meshes_about_an_axis),
         Check::new("65,536 vertices", most_vertices),
+        Check::new("almost edge-on", almost_edge_on),
+        Check::new("held by hand", held_by_hand),
         Check::new("pairs by hand", pairs_by_hand),
         Check::new("starts by hand", starts_by_hand),
         Check::new("refusals", refusals),
@@ -55,7 +62,7 @@ fn before(lengths: [usize; 4]) -> Lent {
     }
 }
 
-fn built(mesh: &Flat, settings: Settings, lent: &mut Lent) -> Result<u32, Reason> {
+fn built(mesh: &Flat, settings: Settings, lent: &mut Lent) -> Result<Built, Reason> {
     let grid = GridMut {
         cell_starts: &mut lent.cell_starts,
         cell_ids: &mut lent.cell_ids,
@@ -91,14 +98,46 @@ pub fn rust_grid(lists: &Lists) -> Slices {
     )
 }
 
-/// Row and column of a vertex on each cube face that has d > 0, as they are converted: toward zero
-/// (IEEE 754-2019, 4.3.2), and held at the ends of the signed range.
-fn converted(position: [f64; 3], side: usize) -> impl Iterator<Item = (usize, [i64; 2])> {
+/// The numbers across the cells of u and w, for a vertex on each cube face that has d > 0. They
+/// stand inside the Rust's builder, which converts them to row and column, so they are restated.
+/// That their cells are the Rust's is seen wherever its grid is compared: `compare_with_rust`.
+fn across_cells(position: [f64; 3], side: usize) -> impl Iterator<Item = (usize, [f64; 2])> {
     (0..6).filter_map(move |face| {
         let (u, w, d) = rust::cube_face_project(position, face);
-        let across = |x: f64| ((x / d).mul_add(0.5, 0.5) * side as f64) as i64;
+        let across = |x: f64| (x / d).mul_add(0.5, 0.5) * side as f64;
         (d > 0.0).then(|| (face, [u, w].map(across)))
     })
+}
+
+/// All numbers that are converted for a grid, each once.
+fn numbers_across(positions: &[f64], side: usize) -> impl Iterator<Item = f64> + '_ {
+    positions
+        .chunks(3)
+        .flat_map(move |p| across_cells([p[0], p[1], p[2]], side))
+        .flat_map(|(_, numbers)| numbers)
+}
+
+/// W-207's count, which the Rust has not: how many of these numbers its conversion holds at an end.
+pub fn held_beside(positions: &[f64], side: u32) -> u32 {
+    let mut held = 0;
+    for x in numbers_across(positions, side as usize) {
+        held += u32::from(is_held(x));
+    }
+    held
+}
+
+/// A line for each lattice at the usual pair, a table's: how many numbers are converted for its
+/// grid, and how many of them are held.
+pub fn print_held() {
+    println!("| Frequency | Vertices | Side | Conversions | Held |\n|---:|---:|---:|---:|---:|");
+    for frequency in FREQUENCIES {
+        let Slices {
+            positions, side, ..
+        } = rust_grid(&Lattice::new(frequency).lists);
+        let conversions = numbers_across(&positions, side as usize).count();
+        let (vertices, held) = (positions.len() / 3, held_beside(&positions, side));
+        println!("| {frequency} | {vertices} | {side} | {conversions} | {held} |");
+    }
 }
 
 /// The grid at a pair, worked out beside the Rust, which has the usual one fixed. By document 01 and
@@ -114,7 +153,9 @@ pub fn grid_beside(usual: &Slices, settings: Settings) -> Slices {
     };
     let mut placed: Vec<(u32, u16)> = Vec::new();
     for (id, p) in usual.positions.chunks(3).enumerate() {
-        for (face, [row, column]) in converted([p[0], p[1], p[2]], side) {
+        for (face, numbers) in across_cells([p[0], p[1], p[2]], side) {
+            // Toward zero (IEEE 754-2019, 5.8), and held at the ends of the signed range.
+            let [row, column] = numbers.map(|x| x as i64);
             for row in near(row) {
                 for column in near(column) {
                     let cell = (face * side + row as usize) * side + column as usize;
@@ -154,15 +195,34 @@ pub fn greatest_ids(count: usize, margin: u32) -> usize {
 }
 
 /// The engine's answer, and whether it is this grid, with so many surplus places, and keeps the bound
-/// of its ids.
-fn outcome(mesh: &Flat, grid: &Slices, surplus: [usize; 4]) -> (Result<u32, Reason>, bool) {
+/// of its ids. The count of conversions held is compared apart.
+fn outcome(mesh: &Flat, grid: &Slices, surplus: [usize; 4]) -> (Result<Built, Reason>, bool) {
     let places = needed(grid);
     let lent = before([0, 1, 2, 3].map(|i| places[i] + surplus[i]));
     let mut ours = lent.clone();
     let answer = built(mesh, grid.settings, &mut ours);
     let bounded = places[1] <= greatest_ids(mesh.count(), grid.settings.margin);
-    let same = bounded && answer == Ok(grid.side) && ours == with_grid(lent, grid);
+    let same = bounded && has_side(answer, grid) && ours == with_grid(lent, grid);
     (answer, same)
+}
+
+fn has_side(answer: Result<Built, Reason>, grid: &Slices) -> bool {
+    answer.is_ok_and(|built| built.side == grid.side)
+}
+
+/// The count of an accepted build.
+fn compare_held(
+    tally: &mut Tally,
+    answer: Result<Built, Reason>,
+    grid: &Slices,
+    name: impl Fn() -> String,
+) {
+    let held = held_beside(&grid.positions, grid.side);
+    let same = answer.is_ok_and(|built| built.held == held);
+    tally.compare(Judge::Beside, same, || {
+        let name = name();
+        format!("conversions of {name}: {answer:?}, held beside the Rust {held}")
+    });
 }
 
 /// At the usual pair. What is worked out beside the Rust's grid has to be that grid there.
@@ -174,6 +234,7 @@ fn compare_with_rust(tally: &mut Tally, lists: &Lists, surplus: [usize; 4], name
         let side = grid.side;
         format!("grid of {name}: {answer:?}, Rust's side {side}, the same beside it: {beside}")
     });
+    compare_held(tally, answer, &grid, || name.to_string());
     grid
 }
 
@@ -191,15 +252,23 @@ fn compare_beside(
         let name = name();
         format!("grid of {name}, {settings:?}: {answer:?}, side beside the Rust {side}")
     });
+    compare_held(tally, answer, grid, name);
 }
 
 fn lattices(tally: &mut Tally) {
+    let mut kinds = Kinds::default();
     for frequency in FREQUENCIES {
         let lattice = Lattice::new(frequency);
         let name = format!("the lattice of frequency {frequency}");
         compare_with_rust(tally, &lattice.lists, [0; 4], &name);
-        compare_with_rust(tally, &lattice.lists, [1, 2, 3, 4], &name);
+        let grid = compare_with_rust(tally, &lattice.lists, [1, 2, 3, 4], &name);
+        let held = held_beside(&grid.positions, grid.side);
+        kinds.count(&[
+            ("a lattice without a conversion held", held == 0),
+            ("a lattice with some", held > 0),
+        ]);
     }
+    kinds.all_reached(tally);
 }
 
 /// Each at the ends of both ranges and at two more pairs.
@@ -247,18 +316,18 @@ fn random_meshes(tally: &mut Tally) {
 /// Components that put a vertex on an axis or a diagonal, or almost edge-on to a cube face.
 const COMPONENTS: [f64; 8] = [0.0, -0.0, 1.0, -1.0, 1e-30, -1e-30, 1e-300, -1e-300];
 
+/// Whether a number is held at this end.
+fn held_at(numbers: &[f64], end: i64) -> bool {
+    numbers.iter().any(|&x| is_held(x) && x as i64 == end)
+}
+
 /// The converted coordinates beside the first and the last cell that are near it with a margin and no
 /// more, and the ends of the conversion; whether a mesh has them at a pair.
 fn kinds_of_placing(grid: &Slices) -> [(&'static str, bool); 16] {
-    let side = grid.side as usize;
-    let coordinates: Vec<i64> = grid
-        .positions
-        .chunks(3)
-        .flat_map(|p| converted([p[0], p[1], p[2]], side))
-        .flat_map(|(_, coordinates)| coordinates)
-        .collect();
-    let g = side as i64;
-    let any = |coordinate| coordinates.contains(&coordinate);
+    let numbers: Vec<f64> = numbers_across(&grid.positions, grid.side as usize).collect();
+    let g = i64::from(grid.side);
+    let any = |coordinate| numbers.iter().any(|&x| x as i64 == coordinate);
+    let held = |end| held_at(&numbers, end);
     let at = |margin, coordinate| grid.settings.margin == margin && any(coordinate);
     [
         ("margin 0: coordinate -1, near none", at(0, -1)),
@@ -281,8 +350,8 @@ fn kinds_of_placing(grid: &Slices) -> [(&'static str, bool); 16] {
             at(3, g + 2),
         ),
         ("margin 3: coordinate g + 3, near none", at(3, g + 3)),
-        ("a coordinate held at the least end", any(i64::MIN)),
-        ("a coordinate held at the greatest end", any(i64::MAX)),
+        ("a coordinate held at the least end", held(i64::MIN)),
+        ("a coordinate held at the greatest end", held(i64::MAX)),
     ]
 }
 
@@ -370,6 +439,118 @@ fn most_vertices(tally: &mut Tally) {
     }
 }
 
+/// Numbers at the ends of the signed range and beside them; whether a mesh has them at a pair.
+fn kinds_of_held(grid: &Slices) -> [(&'static str, bool); 10] {
+    let numbers: Vec<f64> = numbers_across(&grid.positions, grid.side as usize).collect();
+    let above_range = 2f64.powi(63);
+    let any = |number: f64| numbers.contains(&number);
+    let [least, greatest] = [i64::MIN, i64::MAX].map(|end| held_at(&numbers, end));
+    let held = least || greatest;
+    [
+        ("no conversion held", !held),
+        (
+            "some held, at the usual pair",
+            held && grid.settings == USUAL,
+        ),
+        ("some held, at another pair", held && grid.settings != USUAL),
+        ("some held at each end", least && greatest),
+        ("kept: -2^63", any(-above_range)),
+        (
+            "held: the next double below it",
+            any((-above_range).next_down()),
+        ),
+        ("held: 2^63", any(above_range)),
+        (
+            "kept: the next double below it",
+            any(above_range.next_down()),
+        ),
+        ("held: minus infinity", any(f64::NEG_INFINITY)),
+        ("held: infinity", any(f64::INFINITY)),
+    ]
+}
+
+/// A mesh at the usual pair and at another, with vertices brought almost edge-on for either side.
+fn edge_on(tally: &mut Tally, kinds: &mut Kinds, random: &mut Random, lists: &Lists, name: &str) {
+    for settings in [USUAL, pairs::accepted(random)] {
+        let mut lists = lists.clone();
+        lists.bring_edge_on(random, pairs::side(lists.vertices.len(), settings.factor));
+        let flat = lists.flat();
+        if row_5(&flat) {
+            continue;
+        }
+        let mut grid = compare_with_rust(tally, &lists, [0; 4], name);
+        if settings != USUAL {
+            grid = grid_beside(&grid, settings);
+            compare_beside(tally, &flat, &grid, [0; 4], || name.to_string());
+        }
+        kinds.count(&kinds_of_held(&grid));
+    }
+}
+
+/// Numbers at the ends of the signed range and beyond them.
+fn almost_edge_on(tally: &mut Tally) {
+    let mut random = Random::new(87);
+    let mut kinds = Kinds::default();
+    for at in 0..EDGE_ON {
+        let lists = Lists::random(&mut random);
+        let name = format!("mesh {at} almost edge-on");
+        edge_on(tally, &mut kinds, &mut random, &lists, &name);
+    }
+    for frequency in EDGE_ON_LATTICES {
+        let lists = Lattice::new(frequency).lists;
+        let name = format!("the lattice of frequency {frequency} almost edge-on");
+        edge_on(tally, &mut kinds, &mut random, &lists, &name);
+    }
+    kinds.all_reached(tally);
+}
+
+/// 2^−1074 and 2^−63.
+const LEAST: f64 = f64::from_bits(1);
+const PART: f64 = f64::from_bits((BIAS - 63) << SIGNIFICAND_DIGITS);
+
+/// One vertex, whose side is 2 at every pair, by hand: how many numbers are converted, and how many
+/// of them are held. Where u/d is ±2^63 the number is ±2^63, as ±2^62 + 0.5 rounds to ±2^62 (to
+/// nearest, IEEE 754-2019, 4.3.1): 2^63 is held, and −2^63 isn't.
+const HELD_BY_HAND: [([f64; 3], usize, u32); 12] = [
+    ([1.0, 1.0, 1.0], 6, 0),
+    ([1.0, LEAST, LEAST], 6, 2),
+    ([-1.0, LEAST, LEAST], 6, 2),
+    ([1.0, -LEAST, 0.0], 4, 1),
+    ([1.0, 0.0, -0.0], 2, 0),
+    // Both on face 4, one at each end.
+    ([1.0, -1.0, LEAST], 6, 2),
+    ([1.0, PART, 0.0], 4, 1),
+    ([-1.0, PART, 0.0], 4, 0),
+    ([1.0, PART.next_up(), 0.0], 4, 0),
+    ([-1.0, PART.next_down(), 0.0], 4, 1),
+    ([0.0, 1.0, PART], 4, 1),
+    ([PART, 0.0, 1.0], 4, 1),
+];
+
+/// The loop and the engine, both held to what is known by hand.
+fn held_by_hand(tally: &mut Tally) {
+    for (vertex, conversions, held) in HELD_BY_HAND {
+        let lists = Lists {
+            vertices: vec![vertex],
+            neighbors: vec![vec![]],
+        };
+        let usual = rust_grid(&lists);
+        let by_hand =
+            numbers_across(&vertex, 2).count() == conversions && held_beside(&vertex, 2) == held;
+        for settings in [&[USUAL][..], &ENDS].concat() {
+            let grid = grid_beside(&usual, settings);
+            let mut ours = before(needed(&grid));
+            let answer = built(&lists.flat(), settings, &mut ours);
+            let same = answer == Ok(Built { side: 2, held });
+            tally.compare(Judge::Beside, same && by_hand, || {
+                format!(
+                    "{vertex:?}, {settings:?}: {answer:?}, by hand {held}, so the loop: {by_hand}"
+                )
+            });
+        }
+    }
+}
+
 /// Margins and the cells of one vertex (1, 1, 1) at the usual factor, by hand: its coordinates
 /// convert to 2, behind the last row and column of the faces 0, 2 and 4.
 const CELLS_BY_HAND: [(u32, &[usize]); 4] = [
@@ -403,6 +584,9 @@ fn pairs_by_hand(tally: &mut Tally) {
         tally.compare(Judge::Beside, same && beside, || {
             format!("cells of (1, 1, 1), margin {margin}: {answer:?}, by hand beside the Rust: {beside}")
         });
+        compare_held(tally, answer, &hand, || {
+            format!("(1, 1, 1), margin {margin}")
+        });
     }
     for (settings, row) in pairs::BY_HAND {
         let row = row.map(Reason::row);
@@ -417,7 +601,7 @@ fn pairs_by_hand(tally: &mut Tally) {
             let mut ours = lent.clone();
             let answer = built(mesh, settings, &mut ours);
             let left = match expected {
-                None => answer == Ok(2),
+                None => answer == Ok(Built { side: 2, held: 0 }),
                 Some(reason) => answer == Err(reason) && ours == lent,
             };
             tally.compare(Judge::Rows, left && settings_row(settings) == row, || {
@@ -549,10 +733,13 @@ fn refusals(tally: &mut Tally) {
         starts.count(&kinds_of_starts(&flat, row));
         kinds.count(&kinds_of_refusal(settings, row, lengths == [0; 4]));
         let (judge, same) = match (row, &grid) {
-            (None, Some(grid)) => (
-                judge,
-                answer == Ok(grid.side) && ours == with_grid(lent, grid),
-            ),
+            (None, Some(grid)) => {
+                compare_held(tally, answer, grid, || format!("{flat:?}, {settings:?}"));
+                (
+                    judge,
+                    has_side(answer, grid) && ours == with_grid(lent, grid),
+                )
+            }
             _ => (Judge::Rows, answer.err() == row && ours == lent),
         };
         tally.compare(judge, same, || {

@@ -1,7 +1,8 @@
 //! Total order, rank, floor, ceiling and conversion, beside Rust's own methods of doubles.
 
-use crate::check::{same, Check, Judge, Tally};
-use crate::patterns::Patterns;
+use crate::check::{same, Check, Judge, Kinds, Tally};
+use crate::patterns::{Patterns, BIAS, EXPONENT_FIELDS, SIGN, SIGNIFICAND, SIGNIFICAND_DIGITS};
+use koshirga::{Conversion, Converted};
 
 pub fn checks() -> Vec<Check> {
     vec![
@@ -82,12 +83,71 @@ fn integral(tally: &mut Tally, seed: u64, name: &str, ours: fn(f64) -> f64, rust
     });
 }
 
+/// The pattern of −2^63, the least number of the signed range.
+const LEAST_OF_RANGE: u64 = SIGN | (BIAS + 63) << SIGNIFICAND_DIGITS;
+
+/// What W-207 says of a converted value, which Rust's conversion doesn't: read from the fields of
+/// the pattern (IEEE 754-2019, 3.4), without a comparison or a rounding of doubles.
+pub fn conversion_by_fields(bits: u64) -> Conversion {
+    let exponent = bits >> SIGNIFICAND_DIGITS & (EXPONENT_FIELDS - 1);
+    let significand = bits & SIGNIFICAND;
+    // The digits behind the point; below 1 they are all of the number.
+    let fraction = match exponent {
+        ..BIAS => bits & !SIGN,
+        _ => significand & SIGNIFICAND >> (exponent - BIAS).min(63),
+    };
+    if exponent == EXPONENT_FIELDS - 1 && significand != 0 {
+        Conversion::NotANumber
+    } else if exponent >= BIAS + 63 && bits != LEAST_OF_RANGE {
+        Conversion::Held
+    } else if fraction != 0 {
+        Conversion::Cut
+    } else {
+        Conversion::Kept
+    }
+}
+
+/// Whether Rust's conversion holds `x` at an end: that to a wider range gives another number.
+pub fn is_held(x: f64) -> bool {
+    x as i128 != i128::from(x as i64)
+}
+
+/// The cases at and beside the ends of the range and zero; whether a pattern is one.
+fn kinds_of_conversion(bits: u64, how: Conversion) -> [(&'static str, bool); 9] {
+    let x = f64::from_bits(bits);
+    let above_range = 2f64.powi(63);
+    [
+        ("kept", how == Conversion::Kept),
+        ("kept: -0", bits == SIGN),
+        ("kept: -2^63", bits == LEAST_OF_RANGE),
+        ("cut", how == Conversion::Cut),
+        ("cut: to 0", how == Conversion::Cut && x.abs() < 1.0),
+        ("held: 2^63", x == above_range),
+        (
+            "held: the next double below -2^63",
+            x == (-above_range).next_down(),
+        ),
+        ("held: an infinity", x.is_infinite()),
+        ("not a number", how == Conversion::NotANumber),
+    ]
+}
+
+/// The number beside Rust's, the case beside the fields. On these patterns the two readings of
+/// "held" have to agree too.
 fn to_i64(tally: &mut Tally) {
+    let mut kinds = Kinds::default();
     Patterns::each(6, |bits| {
         let x = f64::from_bits(bits);
-        let (ours, rust) = (koshirga::to_i64(x), x as i64);
-        tally.compare(Judge::Rust, ours == rust, || {
-            format!("to_i64({bits:#018x}): {ours}, Rust {rust}")
+        let (Converted { whole, how }, rust) = (koshirga::to_i64(x), x as i64);
+        tally.compare(Judge::Rust, whole == rust, || {
+            format!("to_i64({bits:#018x}): {whole}, Rust {rust}")
         });
+        let (by_fields, held) = (conversion_by_fields(bits), is_held(x));
+        let agree = held == (by_fields == Conversion::Held);
+        tally.compare(Judge::Beside, how == by_fields && agree, || {
+            format!("to_i64({bits:#018x}): {how:?}, by its fields {by_fields:?}, held {held}")
+        });
+        kinds.count(&kinds_of_conversion(bits, by_fields));
     });
+    kinds.all_reached(tally);
 }

@@ -91,10 +91,11 @@ impl Call {
     }
 }
 
-/// The engine's grid of a mesh, cut to a grid's lengths.
+/// The engine's grid of a mesh, cut to a grid's lengths, and the count of conversions held.
 struct Built {
     settings: Settings,
     side: u32,
+    held: u32,
     cell_starts: Vec<u32>,
     cell_ids: Vec<u16>,
     triangle_starts: Vec<u32>,
@@ -116,13 +117,14 @@ impl Built {
             triples: &mut triples,
         };
         let answer = koshirga::build_grid(mesh.as_mesh(), settings, lent);
-        let side = answer.map_err(Refusal::number)?;
+        let koshirga::Built { side, held } = answer.map_err(Refusal::number)?;
         cell_starts.truncate(6 * (side * side) as usize + 1);
         cell_ids.truncate(cell_starts[cell_starts.len() - 1] as usize);
         triples.truncate(3 * triangle_starts[count] as usize);
         Ok(Built {
             settings,
             side,
+            held,
             cell_starts,
             cell_ids,
             triangle_starts,
@@ -194,11 +196,12 @@ fn state_moved(before: &State, after: &State, p: &[u32], form: usize) -> bool {
     vertices && data && tail
 }
 
-/// Sides, cells and triples of the two grids.
+/// Sides, counts of conversions held, cells and triples of the two grids.
 fn grids_moved(before: &Built, after: &Built, p: &[u32]) -> bool {
     let through = |id: u16| p[usize::from(id)];
     let cells = 6 * (before.side * before.side) as usize;
     before.side == after.side
+        && before.held == after.held
         && (0..cells).all(|at| {
             let moved = sorted(before.cell(at).iter().map(|&id| through(id)).collect());
             let now: Vec<u32> = after.cell(at).iter().map(|&id| u32::from(id)).collect();
@@ -224,8 +227,12 @@ fn calls(tally: &mut Tally, form: usize, frequencies: &[usize]) {
     let mut random = Random::new(90 + form as u64);
     let mut kinds = Kinds::default();
     for &frequency in frequencies {
-        let lists = Lattice::new(frequency).lists;
+        let mut lists = Lattice::new(frequency).lists;
         for list in 0..LISTS {
+            if list == LISTS / 2 {
+                let side = pairs::side(lists.vertices.len(), USUAL.factor);
+                lists.bring_edge_on(&mut random, side);
+            }
             one_list(tally, &mut kinds, &mut random, &lists, form, list);
         }
     }
@@ -306,9 +313,11 @@ fn one_list(
             format!("{v:?} after {}: {first:?}, {second:?}", name())
         });
     }
-    let of_queries = [
+    let of_grids = [
+        ("no conversion is held", grid.held == 0),
+        ("some are held", grid.held > 0),
         ("a nearest query is answered", answered),
         ("a nearest query meets an empty cell", empty),
     ];
-    kinds.count(&[&kinds_of_pair(settings)[..], &of_queries].concat());
+    kinds.count(&[&kinds_of_pair(settings)[..], &of_grids].concat());
 }

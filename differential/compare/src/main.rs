@@ -1,9 +1,10 @@
 //! Runs both sides on the same inputs and counts the differences.
 //!
 //! Usage: `compare SUMMARY [TOPIC...]`; no topic means all. Each check has its line on standard
-//! output, and each topic's sums have theirs in the file SUMMARY. Three words do something else:
-//! `cases` writes the inputs that MPFR judges too, `bench` times both sides, `record FOLDER` writes
-//! the Rust's answers for the program `replay`, whose crate is in that folder.
+//! output, and each topic's sums have theirs in the file SUMMARY. Four words do something else:
+//! `cases` writes the inputs that MPFR judges too, `bench` times both sides, `held` prints how many
+//! conversions are held for the grid of each lattice, `record FOLDER` writes the Rust's answers for
+//! the program `replay`, whose crate is in that folder.
 //! Exit status: 0 no difference, 1 some, 2 an unknown topic, a Rust side that can't be the judge, or
 //! a summary that can't be written.
 
@@ -56,6 +57,7 @@ fn main() -> ExitCode {
             bench::run();
             ExitCode::SUCCESS
         }
+        ["held"] => print_held(),
         ["record", folder] => write_records(folder),
         [summary, topics @ ..] => compare(summary, topics),
         [] => {
@@ -98,6 +100,15 @@ fn write_cases() -> ExitCode {
             ExitCode::FAILURE
         }
     }
+}
+
+fn print_held() -> ExitCode {
+    if !arithmetic::rust_is_fused() {
+        eprintln!("compare: f64::mul_add rounds twice on this machine, so nothing is counted");
+        return ExitCode::from(2);
+    }
+    grids::print_held();
+    ExitCode::SUCCESS
 }
 
 fn write_records(folder: &str) -> ExitCode {

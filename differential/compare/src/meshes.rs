@@ -1,6 +1,6 @@
 //! Lattices of the oracle as flat slices, and random meshes.
 
-use crate::patterns::Random;
+use crate::patterns::{Random, BIAS, SIGN};
 use icotable_oracle as rust;
 
 /// The frequencies that row 1 lets pass.
@@ -68,6 +68,33 @@ impl Lists {
             vertices: (0..count)
                 .map(|_| [random.unit(), random.unit(), random.unit()])
                 .collect(),
+        }
+    }
+
+    /// Brings about half of the vertices almost edge-on to a cube face: beside the greatest
+    /// coordinate another becomes tiny. Then a number across so many cells comes to an end of the
+    /// signed range, beside it or beyond.
+    pub fn bring_edge_on(&mut self, random: &mut Random, side: usize) {
+        for position in &mut self.vertices {
+            if random.below(2) == 0 {
+                continue;
+            }
+            let [x, y, z] = position.map(f64::abs);
+            let greatest = match x.max(y).max(z) {
+                of if of == x => 0,
+                of if of == y => 1,
+                _ => 2,
+            };
+            let at_an_end = position[greatest] * side as f64 * 2f64.powi(-64);
+            let bits = match random.below(5) {
+                // Subnormal, then of any magnitude below 2^−53.
+                0 => random.with_exponent(0, 0),
+                1 => random.with_exponent(1, BIAS - 54),
+                2 => (at_an_end * 2f64.powi(random.between(-2, 2) as i32)).to_bits(),
+                _ => random.near(at_an_end.to_bits(), 2),
+            };
+            let tiny = (greatest + 1 + random.below(2) as usize) % 3;
+            position[tiny] = f64::from_bits(bits ^ SIGN * random.below(2));
         }
     }
 }

@@ -3,7 +3,8 @@
 
 use crate::analytic::{rust_answer, Answer, Classifier};
 use crate::directions::{row_9, rust_of, Directions};
-use crate::grids::{mesh_row, row_5, rust_grid};
+use crate::grids::{held_beside, mesh_row, row_5, rust_grid};
+use crate::helpers::conversion_by_fields;
 use crate::meshes::{permutation, Flat, Lattice, Lists, FREQUENCIES};
 use crate::operands::{Class, RADICANDS, TRIPLES};
 use crate::patterns::{Patterns, Random};
@@ -12,7 +13,7 @@ use crate::renumber::{self, State};
 use crate::rows::{adjacency_row, by_hand, damage, Reason};
 use crate::walk;
 use icotable_oracle as rust;
-use koshirga::{Located, Nearest, Vector3};
+use koshirga::{Built, Conversion, Located, Nearest, Vector3};
 use std::path::Path;
 use std::{fs, io};
 
@@ -38,12 +39,14 @@ const QUERIES: usize = 6;
 
 /// What the wrong records are made of: the file of a right one, the record in it, and the word of its
 /// answers that is changed, both counted from 0.
-const WRONG: [(&str, usize, usize); 14] = [
+const WRONG: [(&str, usize, usize); 16] = [
     ("mul_add", 0, 0),
     ("sqrt", 0, 0),
     // The conversion, of a negative number and of a positive one.
     ("integral", 0, 2),
     ("integral", 3, 2),
+    // What became of it.
+    ("integral", 3, 3),
     ("total_order", 2, 0),
     ("face_choices", 0, 1),
     // The second weight.
@@ -53,8 +56,10 @@ const WRONG: [(&str, usize, usize); 14] = [
     // The hashes of positions and queue: f64 and u32.
     ("lattice_hashes", 2, 1),
     ("lattice_hashes", 2, 9),
-    // The hash of the cell ids: u16.
-    ("grid_hashes", 2, 9),
+    // The count of conversions held, at the first frequency that has one; the hash of the cell ids:
+    // u16.
+    ("grid_hashes", 36, 8),
+    ("grid_hashes", 2, 10),
     // A vertex of the order: whole list of u32.
     ("meshes", 70, 6),
     // An entry: whole list of u16.
@@ -187,12 +192,18 @@ impl Record {
         self.length(index.unwrap_or(0))
     }
 
-    /// The answer of a walk, with the entries read, or of the builder, with the side.
+    /// The answer of a walk, with the entries read; the builder's begins so, with the side.
     fn counted(self, call: &'static str, answer: Result<u32, Reason>) -> Self {
         self.outcome()
             .refusal(answer.err())
             .number(answer.unwrap_or(0))
             .index(call, answer.err())
+    }
+
+    /// The answer of the builder.
+    fn built(self, answer: Result<Built, Reason>) -> Self {
+        self.counted(BUILDER, answer.map(|built| built.side))
+            .number(answer.map_or(0, |built| built.held))
     }
 
     fn answers(self, answers: &Answers) -> Self {
@@ -404,6 +415,16 @@ fn sqrt() -> Records {
         .collect()
 }
 
+/// The header's numbers.
+fn conversion_code(how: Conversion) -> u32 {
+    match how {
+        Conversion::Kept => 0,
+        Conversion::Cut => 1,
+        Conversion::Held => 2,
+        Conversion::NotANumber => 3,
+    }
+}
+
 fn integral() -> Records {
     let mut patterns = Patterns::new(101);
     let record = |bits| {
@@ -413,6 +434,7 @@ fn integral() -> Records {
             .outcome()
             .doubles(&[x.floor(), x.ceil()])
             .number(x as i64 as u64)
+            .number(conversion_code(conversion_by_fields(bits)))
     };
     (0..PATTERNS).map(|_| record(patterns.random())).collect()
 }
@@ -595,6 +617,13 @@ fn grid_lengths(grid: &Slices) -> [usize; 4] {
     ]
 }
 
+/// The Rust's side, and the count worked out beside it.
+fn built_beside(grid: &Slices) -> Built {
+    let side = grid.side;
+    let held = held_beside(&grid.positions, side);
+    Built { side, held }
+}
+
 fn grid_hashes() -> Records {
     (1..=GRIDS_UP_TO)
         .map(|frequency| {
@@ -602,7 +631,7 @@ fn grid_hashes() -> Records {
             let grid = rust_grid(&lattice.lists);
             lattice_hash(frequency, &lattice)
                 .lengths(&grid_lengths(&grid))
-                .counted(BUILDER, Ok(grid.side))
+                .built(Ok(built_beside(&grid)))
                 .number(hash_u32s(&grid.cell_starts))
                 .number(hash_u16s(&grid.cell_ids))
                 .number(hash_u32s(&grid.triangle_starts))
@@ -697,11 +726,13 @@ fn grid_words(random: &mut Random, record: Record, mesh: &Flat) -> Record {
     let short = (0..4).any(|i| places[i] < exact[i]);
     let row = row.or(short.then_some(Reason::row(8)));
     let written = grid.filter(|_| row.is_none());
-    let side = written.as_ref().map_or(0, |grid| grid.side);
+    let built = written
+        .as_ref()
+        .map_or(Built { side: 0, held: 0 }, built_beside);
     let [a, b, c, d] = places;
     record
         .lengths(&places)
-        .counted(BUILDER, row.map_or(Ok(side), Err))
+        .built(row.map_or(Ok(built), Err))
         .numbers(&over(
             U32_BEFORE,
             a,
@@ -876,7 +907,7 @@ fn locators(frequency: usize) -> Records {
         .outcome()
         .number(0u32)
         .lengths(&grid_lengths(&slices))
-        .counted(BUILDER, Ok(slices.side))];
+        .built(Ok(built_beside(&slices)))];
     let mut record = |v: Vector3| {
         let located = rust_answer(&oracle, &classifier, v);
         let nearest = match located {

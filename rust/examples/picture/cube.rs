@@ -35,7 +35,8 @@ impl Cell {
             (5, -v.x, v.y, -v.z)
         };
         let g = f64::from(side);
-        let index = |t: f64| to_i64((mul_add(t, 0.5, 0.5) * g).clamp(0.0, g - 1.0));
+        // Clamped first, and so never held at an end.
+        let index = |t: f64| to_i64((mul_add(t, 0.5, 0.5) * g).clamp(0.0, g - 1.0)).whole;
         Cell {
             face,
             ci: index(u / d),
