@@ -80,7 +80,8 @@ typedef struct balloon {
     double *positions; /* three a vertex */
     uint32_t *starts;  /* vertices + 1 */
     uint16_t *neighbours;
-    uint16_t *table; /* for the analytic locator */
+    bool lists_ascend; /* the mark of the mesh */
+    uint16_t *table;   /* for the analytic locator */
     double *levels;
 } balloon;
 
@@ -92,6 +93,7 @@ static koshirga_mesh mesh_of(const balloon *b) {
         .starts_length = b->vertices + 1,
         .entries = b->neighbours,
         .entries_length = b->entries,
+        .lists_ascend = b->lists_ascend,
     };
 }
 
@@ -114,7 +116,7 @@ static balloon make_balloon(uint32_t frequency) {
     b.levels = room(b.vertices, sizeof *b.levels);
     accepted("the lattice",
              koshirga_lattice(frequency, b.positions, 3 * b.vertices, b.starts, b.vertices + 1,
-                              b.neighbours, b.entries, b.table, b.ids));
+                              b.neighbours, b.entries, &b.lists_ascend, b.table, b.ids));
     for (size_t v = 0; v < b.vertices; v++) {
         const double *p = b.positions + 3 * v;
         b.levels[v] = cardioid_level((koshirga_vector3){p[0], p[1], p[2]});
@@ -122,7 +124,8 @@ static balloon make_balloon(uint32_t frequency) {
     return b;
 }
 
-/* Renumbers mesh and levels in walk order. Returns the new id of each old one. */
+/* Renumbers mesh and levels in walk order, which leaves each neighbour list ascending and the mesh
+ * marked so. Returns the new id of each old one. */
 static uint32_t *renumber_by_walk(balloon *b) {
     uint32_t *order = room(b->vertices, sizeof *order);
     uint32_t *queue = room(b->vertices, sizeof *queue);
@@ -139,8 +142,8 @@ static uint32_t *renumber_by_walk(balloon *b) {
     double *held = room(longest, sizeof *held);
     koshirga_verdict_answer renumbered = koshirga_renumber(
         b->positions, 3 * b->vertices, b->starts, b->vertices + 1, b->neighbours, b->entries,
-        b->levels, b->vertices, order, b->vertices, 1, sources, longest, old_starts, longest,
-        old_entries, longest, done, longest, held, longest);
+        &b->lists_ascend, b->levels, b->vertices, order, b->vertices, 1, sources, longest,
+        old_starts, longest, old_entries, longest, done, longest, held, longest);
     accepted_at("the renumbering", renumbered.refusal, renumbered.index);
     free(queue);
     free(sources);
@@ -182,6 +185,11 @@ static koshirga_grid make_grid(const balloon *b, koshirga_grid_slices lent) {
 }
 
 /* ---- what is printed */
+
+static void print_mark(koshirga_mesh mesh) {
+    printf("mesh renumbered in walk order: %s\n",
+           mesh.lists_ascend ? "marked, every neighbour list ascends" : "unmarked");
+}
 
 static void print_location(const uint32_t ids[3], const double weights[3], const double levels[3]) {
     double level = 0, sum = 0;
@@ -253,6 +261,7 @@ int main(int argc, char **argv) {
     koshirga_analytic_answer analytic = ask_analytic(&b, direction);
 
     uint32_t *order = renumber_by_walk(&b);
+    print_mark(mesh_of(&b));
     koshirga_grid_slices lent = room_for_grid(&b);
     koshirga_grid grid = make_grid(&b, lent);
     ask_grid(&b, &grid, direction);

@@ -286,11 +286,12 @@ static vector any_position(draw *d) {
     }
 }
 
-/* Lists with repeats and own vertices; a neighbour need not list back; at times an island. */
+/* Lists with repeats and own vertices; a neighbour need not list back; at times an island, and at
+ * times no list of two entries. */
 static mesh random_mesh(draw *d) {
     mesh m = room();
     uint32_t count = 1 + below(d, one_in(d, 4) ? 40 : 9);
-    uint32_t longest = one_in(d, 8) ? LIST_MAX : 7;
+    uint32_t longest = one_in(d, 8) ? LIST_MAX : one_in(d, 16) ? below(d, 2) : 7;
     uint32_t cut = one_in(d, 4) ? below(d, count) : count;
     append_start(&m);
     for (uint32_t v = 0; v < count; v++) {
@@ -326,16 +327,19 @@ static mesh fan_mesh(draw *d) {
     return m;
 }
 
-/* 65,536 vertices, or some more or fewer: a path, which is cut at times. */
+/* 65,536 vertices, or some more or fewer: a path one way or both ways, which is cut at times. */
 static mesh greatest_mesh(draw *d) {
     mesh m = room();
     uint32_t count = VERTEX_MAX + 1 - below(d, 3);
     uint32_t cut = one_in(d, 2) ? below(d, count) : count;
+    bool both_ways = one_in(d, 2);
     vector at = any_position(d);
     append_start(&m);
     for (uint32_t v = 0; v < count; v++) {
         append_position(&m, (vector){at.y, at.z, at.x});
         at = (vector){at.y, at.z, at.x};
+        if (both_ways && v > 0)
+            append_entry(&m, v - 1);
         if (v + 1 < count && v != cut)
             append_entry(&m, v + 1);
         append_start(&m);
@@ -384,6 +388,45 @@ mesh any_mesh(draw *d) {
     if (kind < 150)
         return any_slices(d);
     return random_mesh(d);
+}
+
+/* A number below n, which is above 0: the first, the last, or any. */
+static uint32_t first_or_last(draw *d, uint32_t n) {
+    switch (below(d, 3)) {
+    case 0: return 0;
+    case 1: return n - 1;
+    default: return below(d, n);
+    }
+}
+
+/* Exchanges the entries of a pair that rises, or of the next one that does, lists taken in a
+ * ring. */
+static void make_pair_fall(draw *d, mesh *m) {
+    uint32_t count = (uint32_t)m->starts_length - 1, first = first_or_last(d, count);
+    for (uint32_t tried = 0; tried < count; tried++) {
+        uint32_t v = (first + tried) % count, length = m->starts[v + 1] - m->starts[v];
+        if (length < 2)
+            continue;
+        uint32_t pairs = length - 1, place = first_or_last(d, pairs);
+        for (uint32_t i = 0; i < pairs; i++) {
+            uint16_t *pair = m->entries + m->starts[v] + (place + i) % pairs, lower = pair[0];
+            if (pair[1] <= lower)
+                continue;
+            pair[0] = pair[1];
+            pair[1] = lower;
+            return;
+        }
+    }
+}
+
+void arrange_lists(draw *d, mesh *m) {
+    bool sorted = one_in(d, 2), falls = one_in(d, 2);
+    if (mesh_row(m, false).refusal)
+        return;
+    for (size_t v = 0; sorted && v + 1 < m->starts_length; v++)
+        sort_ids(m->entries + m->starts[v], m->starts[v + 1] - m->starts[v]);
+    if (falls)
+        make_pair_fall(d, m);
 }
 
 /* The place of a start that is to fall: at times 1, for which the first has to be above 0; often 2,

@@ -73,6 +73,9 @@ enum {
  * limit of the count, or any slices. */
 mesh any_mesh(draw *d);
 
+/* Sorts the lists of a mesh that passes its rows, or doesn't; then makes one pair fall at times. */
+void arrange_lists(draw *d, mesh *m);
+
 /* Puts one thing of it wrong, or nothing at times. */
 void damage_mesh(draw *d, mesh *m);
 

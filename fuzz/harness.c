@@ -1,5 +1,5 @@
-/* What libFuzzer runs: every function of koshirga.h on drawn arguments. Each answer, and each
- * element of each lent slice, is compared with the second reading of document 01 (reading.h). */
+/* What libFuzzer runs: every function of koshirga.h on drawn arguments. Each answer, each element
+ * of each lent slice and the mark are compared with the papers' second reading (reading.h). */
 #include <math.h>
 #include <stdlib.h>
 #include <string.h>
@@ -183,6 +183,60 @@ static void analytic(draw *d) {
     }
 }
 
+/* ---- the mark, and the order of lists */
+
+/* The slice as which the mark is lent, or the struct that has it. */
+enum { MARK = 10 };
+
+static lent lend_mark(draw *d, bool before) {
+    return lend(MARK, &before, 1, sizeof before, one_in(d, 2));
+}
+
+/* Counts what the mark was before a call and is after it. */
+static void count_mark(entry of, bool before, bool after, uint32_t row) {
+    if (row)
+        count_way(of, after ? WAY_MARK_KEPT_SET : WAY_MARK_KEPT_CLEAR);
+    else if (after)
+        count_way(of, before ? WAY_MARK_STILL_SET : WAY_MARK_SET);
+    else
+        count_way(of, before ? WAY_MARK_CLEARED : WAY_MARK_STILL_CLEAR);
+}
+
+/* How the lists of a mesh that passes its rows are ordered, their entries taken through q where it
+ * isn't null. tally.h says what falls. */
+typedef struct list_order {
+    size_t falling_lists, falling_pairs;
+    size_t list, pair, pairs; /* of the last pair that falls: list, place, and pairs of the list */
+    size_t longest;
+    bool repeats, apart; /* equal entries side by side, or with others between them */
+    bool border;         /* a list begins below the entry before it, which ends another */
+} list_order;
+
+static list_order order_of(const mesh *m, const uint32_t *q) {
+    list_order found = {0};
+    for (size_t v = 0; v + 1 < m->starts_length; v++) {
+        uint32_t list[LIST_MAX], before = 0;
+        size_t start = m->starts[v], length = m->starts[v + 1] - start, falls = 0;
+        for (size_t i = 0; i < length; i++) {
+            uint32_t id = m->entries[start + i];
+            list[i] = q ? q[id] : id;
+            for (size_t j = 0; j + 1 < i; j++)
+                found.apart |= list[j] == list[i] && list[i - 1] != list[i];
+            found.repeats |= i > 0 && before == list[i];
+            if (i > 0 && list[i] < before) {
+                falls++;
+                found.list = v, found.pair = i - 1, found.pairs = length - 1;
+            }
+            before = list[i];
+        }
+        found.border |= length > 0 && start > 0 && m->entries[start] < m->entries[start - 1];
+        found.longest = length > found.longest ? length : found.longest;
+        found.falling_pairs += falls;
+        found.falling_lists += falls > 0;
+    }
+    return found;
+}
+
 /* ---- lattice */
 
 static void call_lattice(draw *d) {
@@ -200,22 +254,32 @@ static void call_lattice(draw *d) {
     lent starts = lend(1, any_garbage(d), lengths[1], sizeof(uint32_t), one_in(d, 2));
     lent entries = lend(2, any_garbage(d), lengths[2], sizeof(uint16_t), one_in(d, 2));
     lent ids = lend(3, any_garbage(d), lengths[3], sizeof(uint16_t), one_in(d, 2));
+    bool before = one_in(d, 2);
+    lent mark = lend_mark(d, before);
     mesh filled = {positions.expected, lengths[0],       starts.expected,
                    lengths[1],         entries.expected, lengths[2]};
-    uint32_t expected = expected_lattice(n, &filled, ids.expected, lengths[3]);
-    uint32_t row = koshirga_lattice(n, positions.at, lengths[0] + (MISREAD == 12), starts.at,
-                                    lengths[1], entries.at, lengths[2], ids.at, lengths[3]);
+    uint32_t expected = expected_lattice(n, &filled, mark.expected, ids.expected, lengths[3]);
+    uint32_t row =
+        koshirga_lattice(n, positions.at, lengths[0] + (MISREAD == 12), starts.at, lengths[1],
+                         entries.at, lengths[2], mark.at, ids.at, lengths[3]);
     hold_row(ENTRY_lattice, expected, row);
     hold(ENTRY_lattice, as_expected(0), "the positions");
     hold(ENTRY_lattice, as_expected(1), "the starts");
     hold(ENTRY_lattice, as_expected(2), "the entries");
     hold(ENTRY_lattice, as_expected(3), "the id table");
+    hold(ENTRY_lattice, as_expected(MARK), "the mark");
     count(ENTRY_lattice, row);
-    if (!row)
-        count_lattice(n);
+    count_mark(ENTRY_lattice, before, *(bool *)mark.at, row);
+    if (row)
+        return;
+    const lattice *l = lattice_of(n);
+    mesh left = {positions.at,     l->positions_length, starts.at,
+                 l->starts_length, entries.at,          l->entries_length};
+    hold(ENTRY_lattice, order_of(&left, NULL).falling_pairs == 0, "the lists ascend");
+    count_lattice(n);
 }
 
-/* ---- walk and renumbering */
+/* ---- walk, renumbering and mark_ascending */
 
 /* Lends a mesh as slices 0 to 2. `expected` gets their copies. */
 static mesh lend_mesh(draw *d, const mesh *m, mesh *expected) {
@@ -270,9 +334,9 @@ static void count_starts(entry of, const mesh *m, uint32_t row, size_t index) {
 /* Whether the header's call that takes structs stands in for the archive's own. */
 static bool by_structs(draw *d) { return one_in(d, 8); }
 
-static koshirga_mesh mesh_struct(const mesh *m) {
-    return (koshirga_mesh){m->positions,     m->positions_length, m->starts,
-                           m->starts_length, m->entries,          m->entries_length};
+static koshirga_mesh mesh_struct(const mesh *m, bool lists_ascend) {
+    return (koshirga_mesh){m->positions, m->positions_length, m->starts,   m->starts_length,
+                           m->entries,   m->entries_length,   lists_ascend};
 }
 
 static void call_walk(draw *d, const mesh *drawn) {
@@ -287,7 +351,8 @@ static void call_walk(draw *d, const mesh *drawn) {
         expected_walk(&e, order.expected, order_length, queue.expected, queue_length);
     koshirga_walk_answer answer =
         structs
-            ? koshirga_walk_mesh(mesh_struct(&m), order.at, order_length, queue.at, queue_length)
+            ? koshirga_walk_mesh(mesh_struct(&m, one_in(d, 2)), order.at, order_length, queue.at,
+                                 queue_length)
             : koshirga_walk(m.positions, m.positions_length, m.starts, m.starts_length, m.entries,
                             m.entries_length, order.at, order_length, queue.at, queue_length);
     hold_row(of, expected.refusal, answer.refusal);
@@ -345,6 +410,105 @@ static void damage_permutation(draw *d, uint32_t *permutation, size_t *length) {
     }
 }
 
+/* Counts how the lists were ordered that mark_ascending read. */
+static void count_order(entry of, const mesh *m, const list_order *found) {
+    size_t last = m->starts_length - 2;
+    if (found->falling_lists > 1)
+        count_way(of, WAY_SEVERAL_LISTS);
+    if (found->falling_lists == 1)
+        count_way(of, WAY_ONE_LIST_FIRST + place_of(found->list, 0, last));
+    if (found->falling_pairs == 1)
+        count_way(of, WAY_ONE_PAIR_FIRST + place_of(found->pair, 0, found->pairs - 1));
+    if (found->falling_lists)
+        return;
+    if (found->repeats)
+        count_way(of, WAY_ASCEND_REPEATS);
+    if (found->border)
+        count_way(of, WAY_ASCEND_BORDER);
+    if (found->longest < 2)
+        count_way(of, WAY_ASCEND_SHORT);
+    if (mesh_row(m, true).refusal == 5)
+        count_way(of, WAY_ASCEND_POSITION);
+}
+
+/* A struct whose padding holds any bytes, lent whole. */
+static lent lend_struct(draw *d, const mesh *m, bool lists_ascend) {
+    koshirga_mesh lent_mesh;
+    memcpy(&lent_mesh, any_garbage(d), sizeof lent_mesh);
+    lent_mesh.positions = m->positions;
+    lent_mesh.positions_length = m->positions_length;
+    lent_mesh.starts = m->starts;
+    lent_mesh.starts_length = m->starts_length;
+    lent_mesh.entries = m->entries;
+    lent_mesh.entries_length = m->entries_length;
+    lent_mesh.lists_ascend = lists_ascend;
+    return lend(MARK, &lent_mesh, 1, sizeof lent_mesh, one_in(d, 2));
+}
+
+static void call_mark_ascending(draw *d, const mesh *drawn) {
+    mesh e, m = lend_mesh(d, drawn, &e);
+    bool structs = by_structs(d), before = one_in(d, 2);
+    entry of = structs ? ENTRY_mark_ascending_of : ENTRY_mark_ascending;
+    lent mark = structs ? lend_struct(d, &m, before) : lend_mark(d, before);
+    koshirga_mesh *as_struct = mark.at, *expected_struct = mark.expected;
+    bool *after = structs ? &as_struct->lists_ascend : mark.at;
+    koshirga_verdict_answer expected =
+        expected_mark_ascending(&e, structs ? &expected_struct->lists_ascend : mark.expected);
+    koshirga_verdict_answer answer =
+        structs ? koshirga_mark_ascending_of(as_struct)
+                : koshirga_mark_ascending(m.positions, m.positions_length, m.starts,
+                                          m.starts_length, m.entries, m.entries_length, after);
+    hold_row(of, expected.refusal, answer.refusal);
+    hold_index(of, answer.refusal, expected.index, answer.index);
+    hold_mesh(of);
+    hold(of, as_expected(MARK), structs ? "the struct with its mark" : "the mark");
+    count(of, answer.refusal);
+    count_mark(of, before, *after, answer.refusal);
+    count_starts(of, &e, answer.refusal, answer.index);
+    if (answer.refusal)
+        return;
+    list_order found = order_of(&m, NULL);
+    hold(of, *after == (found.falling_pairs == 0), "true exactly where no pair falls");
+    count_order(of, &e, &found);
+}
+
+/* Counts how the lists of a renumbered mesh were ordered before it, and when they were mapped. */
+static void count_mapped(const mesh *before, const uint32_t *q, const list_order *mapped) {
+    size_t lists = before->starts_length - 1, moved = 0;
+    for (size_t v = 0; v < lists; v++)
+        moved += q[v] != v;
+    bool fell = order_of(before, NULL).falling_lists, falls = mapped->falling_lists;
+    count_renumbered(lists, mapped->falling_lists);
+    count_way(ENTRY_renumber, falls ? WAY_MAPPED_FALL : WAY_MAPPED_ASCEND);
+    if (falls != fell)
+        count_way(ENTRY_renumber, falls ? WAY_MAPPED_FALL_NEW : WAY_MAPPED_ASCEND_NEW);
+    if (mapped->apart)
+        count_way(ENTRY_renumber, WAY_MAPPED_APART);
+    if (falls && !moved)
+        count_way(ENTRY_renumber, WAY_MAPPED_SAME);
+}
+
+/* Whether each list of the mesh after has the entries of the earlier one taken through q, each as
+ * often. */
+static bool same_entries(const mesh *before, const mesh *after, const uint32_t *q) {
+    for (size_t v = 0; v + 1 < before->starts_length; v++) {
+        size_t start = before->starts[v], end = before->starts[v + 1];
+        size_t new_start = after->starts[q[v]], new_end = after->starts[q[v] + 1];
+        if (new_end - new_start != end - start)
+            return false;
+        for (size_t i = start; i < end; i++) {
+            size_t were = 0, are = 0;
+            for (size_t j = 0; j < end - start; j++) {
+                were += before->entries[start + j] == before->entries[i];
+                are += after->entries[new_start + j] == q[before->entries[i]];
+            }
+            if (are != were)
+                return false;
+        }
+    }
+    return true;
+}
+
 /* Renumbers `drawn` too where the call is accepted, so that later calls see the mesh after it. */
 static void call_renumber(draw *d, mesh *drawn) {
     static uint32_t permutation_room[STARTS_ROOM], order_room[STARTS_ROOM], queue_room[STARTS_ROOM];
@@ -367,6 +531,8 @@ static void call_renumber(draw *d, mesh *drawn) {
     lent values = lend(3, any_garbage(d), values_length, sizeof(double), one_in(d, 2));
     lent permutation =
         lend(4, permutation_room, permutation_length, sizeof(uint32_t), one_in(d, 2));
+    bool before = one_in(d, 2);
+    lent mark = lend_mark(d, before);
     lent scratch[5];
     size_t scratch_lengths[5];
     bool all_enough = one_in(d, 2);
@@ -375,25 +541,31 @@ static void call_renumber(draw *d, mesh *drawn) {
         scratch[i] = lend(5 + i, any_garbage(d), scratch_lengths[i], SIZES[i], one_in(d, 2));
     }
     koshirga_verdict_answer expected =
-        expected_renumber(&e, values.expected, values_length, permutation.expected,
+        expected_renumber(&e, mark.expected, values.expected, values_length, permutation.expected,
                           permutation_length, per_vertex, scratch_lengths);
     koshirga_verdict_answer answer = koshirga_renumber(
         m.positions, m.positions_length, m.starts, m.starts_length, m.entries, m.entries_length,
-        values.at, values_length, permutation.at, permutation_length, per_vertex, scratch[0].at,
-        scratch_lengths[0], scratch[1].at, scratch_lengths[1], scratch[2].at, scratch_lengths[2],
-        scratch[3].at, scratch_lengths[3], scratch[4].at, scratch_lengths[4]);
+        mark.at, values.at, values_length, permutation.at, permutation_length, per_vertex,
+        scratch[0].at, scratch_lengths[0], scratch[1].at, scratch_lengths[1], scratch[2].at,
+        scratch_lengths[2], scratch[3].at, scratch_lengths[3], scratch[4].at, scratch_lengths[4]);
     hold_row(ENTRY_renumber, expected.refusal, answer.refusal);
     hold_index(ENTRY_renumber, answer.refusal, expected.index, answer.index);
     hold_mesh(ENTRY_renumber);
+    hold(ENTRY_renumber, as_expected(MARK), "the mark");
     hold(ENTRY_renumber, as_expected(3), "the values");
     hold(ENTRY_renumber, as_expected(4), "the permutation");
     for (int i = 0; i < 5; i++)
         hold(ENTRY_renumber, as_expected_from(5 + i, answer.refusal ? 0 : least), "scratch");
     count(ENTRY_renumber, answer.refusal);
+    count_mark(ENTRY_renumber, before, *(bool *)mark.at, answer.refusal);
     count_starts(ENTRY_renumber, &e, answer.refusal, answer.index);
     if (answer.refusal)
         return;
+    list_order mapped = order_of(drawn, permutation.expected);
     hold(ENTRY_renumber, mesh_row(&m, false).refusal == 0, "the mesh passes its rows again");
+    hold(ENTRY_renumber, order_of(&m, NULL).falling_pairs == 0, "the lists ascend");
+    hold(ENTRY_renumber, same_entries(drawn, &m, permutation.expected), "the ids of each list");
+    count_mapped(drawn, permutation.expected, &mapped);
     memcpy(drawn->positions, m.positions, m.positions_length * sizeof *m.positions);
     memcpy(drawn->starts, m.starts, m.starts_length * sizeof *m.starts);
     memcpy(drawn->entries, m.entries, m.entries_length * sizeof *m.entries);
@@ -624,7 +796,8 @@ static bool call_build_grid(draw *d, const mesh *drawn, query *built) {
         koshirga_grid_slices slices = {
             g.cell_starts,     g.cell_starts_length,     g.cell_ids, g.cell_ids_length,
             g.triangle_starts, g.triangle_starts_length, g.triples,  g.triples_length};
-        answer = koshirga_build_grid_of(mesh_struct(&m), pair.factor, pair.margin, slices, &left);
+        answer = koshirga_build_grid_of(mesh_struct(&m, one_in(d, 2)), pair.factor, pair.margin,
+                                        slices, &left);
         hold_row(of, expected.refusal, answer.refusal);
         hold_struct(&left, &before, &m, pair, &g, &needed, answer);
     } else {
@@ -995,14 +1168,18 @@ static void any_grid(draw *d) {
 
 static void meshes(draw *d) {
     mesh m = any_mesh(d);
+    arrange_lists(d, &m);
     if (one_in(d, 2))
         damage_mesh(d, &m);
     if (one_in(d, 16))
         damage_mesh(d, &m);
     call_walk(d, &m);
+    call_mark_ascending(d, &m);
     call_renumber(d, &m);
     if (one_in(d, 2))
         call_renumber(d, &m);
+    if (one_in(d, 4))
+        call_mark_ascending(d, &m);
     query q;
     if (!call_build_grid(d, &m, &q))
         return;

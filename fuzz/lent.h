@@ -1,8 +1,8 @@
-/* Slices lent to the engine. The archive is compiled without sanitizers, so AddressSanitizer
- * doesn't see what it reads and writes. Each slice therefore stands at a page that can't be
- * touched: its last element before one, or its first element behind one. An access past that end
- * stops the program; bytes at the other end are compared after the call. Beside each slice stands a
- * copy, with what the call is to leave. */
+/* Slices lent to the engine, and the mark, as a slice of one element. The archive is compiled
+ * without sanitizers, so AddressSanitizer doesn't see what it reads and writes. Each slice
+ * therefore stands at a page that can't be touched: its last element before one, or its first
+ * element behind one. An access past that end stops the program; bytes at the other end are
+ * compared after the call. Beside each slice stands a copy, with what the call is to leave. */
 #ifndef LENT_H
 #define LENT_H
 
@@ -11,7 +11,7 @@
 
 /* How many there are, and the bytes of the longest: 147 ids of two bytes for each of 65,536
  * vertices, and what is beside them. */
-enum { LENT_MAX = 10, LENT_BYTES = 20 << 20 };
+enum { LENT_MAX = 11, LENT_BYTES = 20 << 20 };
 
 typedef struct lent {
     void *at;       /* what the engine gets; never null */

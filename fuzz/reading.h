@@ -1,6 +1,6 @@
-/* Document 01, as change requests W-207, W-209 and W-210 leave it, read a second time, in C.
- * expected_NAME says what koshirga_NAME returns, and writes what it leaves into the slices that it
- * is given. It follows the text of these papers and nothing of the proved code. */
+/* Document 01, as change requests W-207 to W-210 leave it, read a second time, in C. expected_NAME
+ * says what koshirga_NAME returns, and writes what it leaves into the slices that it is given, and
+ * into the mark. It follows the text of these papers and nothing of the proved code. */
 #ifndef READING_H
 #define READING_H
 
@@ -55,11 +55,34 @@
  *  45. -0 is called cut
  *  46. the count takes the faces with d = 0 too
  *  47. the count takes every conversion that gives an end of the range, -2^63 kept too
- *  48. a build that row 8 refuses carries the count */
+ *  48. a build that row 8 refuses carries the count
+ *  49. the renumbering keeps the order of each list
+ *  50. the renumbering sorts a list before it takes it through the permutation, not after
+ *  51. the renumbering sorts from the greatest id down
+ *  52. the renumbering drops repeats
+ *  53. the renumbering by the identity leaves the lists as they are
+ *  54. the renumbering keeps the order of each list where the mark is true
+ *  55. the accepted renumbering leaves the mark
+ *  56. the refused renumbering sets the mark
+ *  57. the accepted lattice leaves the mark
+ *  58. the refused lattice sets the mark
+ *  59. mark_ascending never sets the mark
+ *  60. mark_ascending never clears the mark
+ *  61. mark_ascending clears the mark where it is refused
+ *  62. mark_ascending clears the mark where a list has repeats
+ *  63. mark_ascending looks at the first list alone
+ *  64. mark_ascending leaves out the last list
+ *  65. mark_ascending leaves out the first pair of each list
+ *  66. mark_ascending leaves out the last pair of each list
+ *  67. mark_ascending takes all entries for one list
+ *  68. mark_ascending tests row 5
+ *  69. mark_ascending gives no index
+ *  70. mark_ascending sorts the lists
+ *  71. ids above 32,767 stand before all others, in mark_ascending and in sorted lists */
 #ifndef MISREAD
 #define MISREAD 0
 #endif
-enum { MISREADINGS = 48 };
+enum { MISREADINGS = 71 };
 
 enum { FREQUENCY_MAX = 80, VERTEX_MAX = 65536, LIST_MAX = 32, MARGIN_MAX = 3, ROWS = 20 };
 
@@ -145,8 +168,9 @@ koshirga_vertex_answer expected_analytic_nearest(uint32_t frequency, const uint1
 /* The lattice of a frequency from 1 to 80; it stays until the program ends. */
 const lattice *lattice_of(uint32_t frequency);
 
-/* filled: positions, starts and entries; ids beside them. */
-uint32_t expected_lattice(uint32_t frequency, mesh *filled, uint16_t *ids, size_t ids_length);
+/* filled: positions, starts and entries; the mark and ids beside them. */
+uint32_t expected_lattice(uint32_t frequency, mesh *filled, bool *lists_ascend, uint16_t *ids,
+                          size_t ids_length);
 
 /* The first of rows 2, 3 (length), 17, 18, 3 (a list over 32) and 4 that holds, then row 5 where it
  * is asked for; 0 where none does. With row 18 the place of the start that falls, else 0. */
@@ -158,10 +182,15 @@ koshirga_walk_answer expected_walk(const mesh *m, uint32_t *order, size_t order_
 /* The places that each scratch slice of a renumbering needs; the mesh passes its rows. */
 size_t renumber_scratch(const mesh *m, size_t values_length);
 
-koshirga_verdict_answer expected_renumber(mesh *m, double *values, size_t values_length,
-                                          const uint32_t *permutation, size_t permutation_length,
-                                          size_t entries_per_vertex,
+koshirga_verdict_answer expected_renumber(mesh *m, bool *lists_ascend, double *values,
+                                          size_t values_length, const uint32_t *permutation,
+                                          size_t permutation_length, size_t entries_per_vertex,
                                           const size_t scratch_lengths[5]);
+
+/* Sorts ids: each is at most the next, and repeats stand side by side. */
+void sort_ids(uint16_t *ids, size_t length);
+
+koshirga_verdict_answer expected_mark_ascending(const mesh *m, bool *lists_ascend);
 
 /* 19 or 20, the first of them that holds; 0 where none does. */
 uint32_t settings_row(settings pair);

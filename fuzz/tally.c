@@ -16,17 +16,23 @@ static const char *const NAMES[ENTRIES] = {ENTRY_POINTS(NAME)};
 /* The calls whose ways are counted, as columns. Which of them can meet a way: a bit each, the first
  * the lowest. */
 enum {
-    COLUMNS = 6,
+    COLUMNS = 8,
     CONVERSION = 1,
-    WHOLE = 14,
-    BUILDER = 8,
-    QUERIES = 48,
-    LOCATION = 32,
+    LATTICE = 2,
+    WALK = 4,
+    RENUMBERING = 8,
+    MARKING = 16,
+    BUILDER = 32,
+    LOCATION = 128,
+    WHOLE = WALK | RENUMBERING | MARKING | BUILDER,
+    QUERIES = 64 | LOCATION,
     PAIRS = BUILDER | QUERIES,
-    ENDS = CONVERSION | BUILDER
+    ENDS = CONVERSION | BUILDER,
+    MARKS = LATTICE | RENUMBERING | MARKING
 };
-static const entry WITH_WAYS[COLUMNS] = {ENTRY_to_i64,     ENTRY_walk,         ENTRY_renumber,
-                                         ENTRY_build_grid, ENTRY_grid_nearest, ENTRY_grid_locate};
+static const entry WITH_WAYS[COLUMNS] = {ENTRY_to_i64,       ENTRY_lattice,        ENTRY_walk,
+                                         ENTRY_renumber,     ENTRY_mark_ascending, ENTRY_build_grid,
+                                         ENTRY_grid_nearest, ENTRY_grid_locate};
 #define WAY(name, calls, text) {calls, text},
 static const struct {
     unsigned calls;
@@ -39,7 +45,7 @@ static uint64_t ways[ENTRIES][WAY_COUNT];
 static uint64_t all_calls, inputs, facts;
 static bool built[FREQUENCY_MAX + 1];
 static uint32_t least_side = UINT32_MAX, greatest_side, most_held;
-static uint64_t builds_with_held;
+static uint64_t builds_with_held, renumbered_lists, renumbered_falling;
 static uint64_t calls_limit = UINT64_MAX;
 static double seconds_limit = 1e18, begun;
 
@@ -64,6 +70,11 @@ void count_built(uint32_t side, uint32_t held) {
     greatest_side = side > greatest_side ? side : greatest_side;
     most_held = held > most_held ? held : most_held;
     builds_with_held += held > 0;
+}
+
+void count_renumbered(size_t lists, size_t falling) {
+    renumbered_lists += lists;
+    renumbered_falling += falling;
 }
 
 void hold(entry of, bool fact, const char *what) {
@@ -175,13 +186,13 @@ static void print_ways(const char *title, unsigned of, int first, int end) {
     printf("\n%-42s", title);
     for (int column = 0; column < COLUMNS; column++)
         if (of >> column & 1)
-            printf(" %12s", NAMES[WITH_WAYS[column]]);
+            printf(" %14s", NAMES[WITH_WAYS[column]]);
     printf("\n");
     for (int w = first; w < end; w++) {
         printf("%-42s", WAYS_OF[w].text);
         for (int column = 0; column < COLUMNS; column++)
             if (of >> column & 1) {
-                printf("   ");
+                printf("     ");
                 print_count(ways[WITH_WAYS[column]][w]);
             }
         printf("\n");
@@ -192,7 +203,8 @@ static void print_tables(double seconds) {
     print_rows();
     print_ways("starts refused, by row", WHOLE | QUERIES, 0, WAY_PAIRS);
     print_ways("pairs, by row (0: accepted)", PAIRS, WAY_PAIRS, WAY_CONVERSIONS);
-    print_ways("conversions", ENDS, WAY_CONVERSIONS, WAY_COUNT);
+    print_ways("conversions", ENDS, WAY_CONVERSIONS, WAY_MARKS);
+    print_ways("the mark (0: accepted), and lists", MARKS, WAY_MARKS, WAY_COUNT);
     int frequencies = 0;
     for (int n = 1; n <= FREQUENCY_MAX; n++)
         frequencies += built[n];
@@ -200,6 +212,8 @@ static void print_tables(double seconds) {
     printf("grids of sides from %" PRIu32 " to %" PRIu32 "\n", least_side, greatest_side);
     printf("%" PRIu64 " of them with conversions held at an end, at most %" PRIu32 " in one\n",
            builds_with_held, most_held);
+    printf("%" PRIu64 " of %" PRIu64 " renumbered lists fell before they were sorted\n",
+           renumbered_falling, renumbered_lists);
     printf("%" PRIu64 " calls from %" PRIu64 " inputs, %.0f s (%.0f s of processor time)\n",
            all_calls, inputs, seconds, seconds_of(CLOCK_PROCESS_CPUTIME_ID));
     printf("%" PRIu64 " facts held, 0 faults, 0 differences\n", facts);

@@ -11,9 +11,10 @@
 #define ENTRY_POINTS(X)                                                                           \
     X(total_cmp) X(rank) X(floor) X(ceil) X(to_i64) X(mul_add) X(sqrt) X(dot) X(cross)            \
     X(minus) X(plus) X(scale) X(divide) X(norm_squared) X(norm) X(normalize) X(direction)         \
-    X(projected_barycentric) X(least_weight) X(walk) X(renumber) X(choose_face)                   \
-    X(analytic_locate) X(analytic_nearest) X(lattice) X(build_grid) X(grid_nearest)               \
-    X(grid_locate) X(walk_mesh) X(build_grid_of) X(nearest_in) X(locate_in)
+    X(projected_barycentric) X(least_weight) X(walk) X(renumber) X(mark_ascending)                \
+    X(choose_face) X(analytic_locate) X(analytic_nearest) X(lattice) X(build_grid)                \
+    X(grid_nearest) X(grid_locate) X(mark_ascending_of) X(walk_mesh) X(build_grid_of)             \
+    X(nearest_in) X(locate_in)
 
 #define ENTRY(name) ENTRY_##name,
 typedef enum entry { ENTRY_POINTS(ENTRY) ENTRIES } entry;
@@ -107,14 +108,43 @@ typedef enum entry { ENTRY_POINTS(ENTRY) ENTRIES } entry;
     X(NOT_A_NUMBER, CONVERSION, "not a number")                                                    \
     X(HELD_AND_ROOM, BUILDER, "8: and conversions that would be held")
 
-#define WAYS(X) START_WAYS(X) PAIR_WAYS(X) CONVERSION_WAYS(X)
+/* The same for the mark, before and after a call that is lent it, and for the order of lists: as
+ * mark_ascending reads them, or as a renumbering has them before it sorts. A pair is an entry and
+ * the next one of its list; it falls where the next one is below it, and a list falls where one of
+ * its pairs does. */
+#define MARK_WAYS(X)                                                                               \
+    X(MARK_SET, MARKS, "0: false, then true")                                                      \
+    X(MARK_STILL_SET, MARKS, "0: true, then true")                                                 \
+    X(MARK_CLEARED, MARKING, "0: true, then false")                                                \
+    X(MARK_STILL_CLEAR, MARKING, "0: false, then false")                                           \
+    X(MARK_KEPT_CLEAR, MARKS, "refused: false, and kept")                                          \
+    X(MARK_KEPT_SET, MARKS, "refused: true, and kept")                                             \
+    X(ASCEND_REPEATS, MARKING, "no list falls: repeats side by side")                              \
+    X(ASCEND_BORDER, MARKING, "no list falls: the next begins lower")                              \
+    X(ASCEND_SHORT, MARKING, "no list falls: all empty or of one entry")                           \
+    X(ASCEND_POSITION, MARKING, "no list falls: a position that 5 refuses")                        \
+    X(ONE_LIST_FIRST, MARKING, "one list falls: the first")                                        \
+    X(ONE_LIST_MIDDLE, MARKING, "one list falls: between")                                         \
+    X(ONE_LIST_LAST, MARKING, "one list falls: the last")                                          \
+    X(ONE_PAIR_FIRST, MARKING, "one pair falls: the first of its list")                            \
+    X(ONE_PAIR_MIDDLE, MARKING, "one pair falls: between")                                         \
+    X(ONE_PAIR_LAST, MARKING, "one pair falls: the last of its list")                              \
+    X(SEVERAL_LISTS, MARKING, "several lists fall")                                                \
+    X(MAPPED_ASCEND, RENUMBERING, "mapped: no list falls")                                         \
+    X(MAPPED_FALL, RENUMBERING, "mapped: a list falls")                                            \
+    X(MAPPED_FALL_NEW, RENUMBERING, "mapped: a list falls, and none did")                          \
+    X(MAPPED_ASCEND_NEW, RENUMBERING, "mapped: no list falls, and one did")                        \
+    X(MAPPED_APART, RENUMBERING, "mapped: repeats that stand apart")                               \
+    X(MAPPED_SAME, RENUMBERING, "mapped by the identity: a list falls")
+
+#define WAYS(X) START_WAYS(X) PAIR_WAYS(X) CONVERSION_WAYS(X) MARK_WAYS(X)
 
 #define WAY(name, calls, text) WAY_##name,
 typedef enum way { WAYS(WAY) WAY_COUNT } way;
 #undef WAY
 
-/* The first way of the pairs, and of the conversions. */
-enum { WAY_PAIRS = WAY_FACTOR_NAN, WAY_CONVERSIONS = WAY_KEPT };
+/* The first way of the pairs, of the conversions and of the marks. */
+enum { WAY_PAIRS = WAY_FACTOR_NAN, WAY_CONVERSIONS = WAY_KEPT, WAY_MARKS = WAY_MARK_SET };
 
 /* The call was answered by this row; 0: accepted. */
 void count(entry of, uint32_t row);
@@ -127,6 +157,9 @@ void count_lattice(uint32_t frequency);
 
 /* A grid of this side was built, with so many conversions held at an end. */
 void count_built(uint32_t side, uint32_t held);
+
+/* A mesh of so many lists was renumbered, of which so many fell before they were sorted. */
+void count_renumbered(size_t lists, size_t falling);
 
 /* Ends the run unless the fact holds. */
 void hold(entry of, bool fact, const char *what);

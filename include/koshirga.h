@@ -1,7 +1,7 @@
 /* Koshirga: the calls of the archive libc_api.a, which `rt staticlib c_api` makes. A whole program
- * that uses them is examples/balloon.c, and examples/exporter.c has a mesh that is refused;
- * docs/DATASHEET.md says what every call does, step by step. Four calls at the end take mesh and
- * grid as structs; they are compiled with the caller's code and call the archive's.
+ * that uses them is examples/balloon.c, and examples/exporter.c has a mesh from outside, refused
+ * and then mended; docs/DATASHEET.md says what every call does, step by step. Five calls at the end
+ * take mesh and grid as structs; they are compiled with the caller's code and call the archive's.
  *
  * Every function returns for every argument and keeps no state. All floating-point data is
  * binary64. Each operation is rounded once, by the clauses of IEEE 754-2019 that the function's
@@ -10,13 +10,21 @@
  * environment is the default one: rounding to nearest, subnormals not flushed to zero.
  *
  * Slices. A slice is a pointer and the number of its elements. The pointer of an empty slice is not
- * null and is not read. Slices that are written overlap no other. The caller lends all memory.
+ * null and is not read. Slices that are written overlap no other. The caller lends all memory. A
+ * pointer to a mark is not null: its bool is 0 or 1 when a call is made, and no slice overlaps it.
  *
  * Data.
  *   Mesh: 1 to 65536 vertices with ids from 0. positions holds x, y and z of each in turn. starts
  *     has a place a vertex and one more, begins at 0, never falls and ends at the entry count: the
  *     neighbours of vertex v are entries[starts[v]] up to, and without, entries[starts[v + 1]], at
  *     most 32 of them.
+ *   Mark: lists_ascend, a bool that belongs to a mesh as its slices do. True says that every
+ *     neighbour list ascends: no entry is below the one before it, so that repeats stand side by
+ *     side. koshirga_lattice and koshirga_renumber set it where they are accepted, and
+ *     koshirga_mark_ascending sets or clears it by what it reads; a refused call leaves it as it
+ *     was. No other call is lent it, and no other outcome of any call depends on it. A mesh from
+ *     outside is unmarked, with false, until koshirga_mark_ascending. Nobody checks a caller who
+ *     writes the mark himself, or who changes lists behind a true one.
  *   Lattice: the mesh that a frequency n from 1 to 80 gives, each of the icosahedron's twenty faces
  *     (its master faces) cut into n^2 triangles and put on the unit sphere.
  *   Id table: the ids of a lattice's points face by face, (n + 1)(n + 2)/2 slots each. The point
@@ -44,7 +52,7 @@
 #include <stdint.h>
 
 #define KOSHIRGA_VERSION_MAJOR 0
-#define KOSHIRGA_VERSION_MINOR 4
+#define KOSHIRGA_VERSION_MINOR 5
 #define KOSHIRGA_VERSION_PATCH 0
 
 #ifdef __cplusplus
@@ -56,8 +64,9 @@ extern "C" {
 /* One of these is the result of a call that may be refused, or is in the first field of its answer,
  * `refusal`. A call is refused by the first of its rows that holds; its comment names them by
  * number, in their order. All other fields are then 0, but for the index of KOSHIRGA_STARTS_FALL,
- * and no slice is changed, but for KOSHIRGA_UNREACHED. Later versions may add rows: take every
- * number but KOSHIRGA_ACCEPTED for a refusal, also one that isn't here.
+ * and neither a slice nor a mark is changed, but for the two slices of KOSHIRGA_UNREACHED. Later
+ * versions may add rows: take every number but KOSHIRGA_ACCEPTED for a refusal, also one that isn't
+ * here.
  *
  * `index`, a field of some answers, belongs to KOSHIRGA_STARTS_FALL alone: the place in the start
  * list, counted from 0, of the first start that is below the one before it, so at least 1. The
@@ -225,7 +234,7 @@ koshirga_weights koshirga_projected_barycentric(koshirga_vector3 p, koshirga_vec
  * where all three are. */
 double koshirga_least_weight(koshirga_weights weights);
 
-/* ---- walk and renumbering */
+/* ---- walk, renumbering and mark */
 
 typedef struct koshirga_walk_answer {
     uint32_t refusal, entries_read;
@@ -237,10 +246,10 @@ typedef struct koshirga_verdict_answer {
     size_t index; /* that of row 18 */
 } koshirga_verdict_answer;
 
-/* Breadth first from vertex 0. order gets the new id at each old one, queue the old ids in that
- * order; each needs a place a vertex, and surplus is untouched. Rows 2, 3, 17, 18, 3, 4, 8, 13; 13
- * leaves reached ids numbered, 4294967295 for others and the reached ids in queue, the other rows
- * change nothing. */
+/* Breadth first from vertex 0, neighbours in the order of their list. order gets the new id at each
+ * old one, queue the old ids in that order; each needs a place a vertex, and surplus is untouched.
+ * Rows 2, 3, 17, 18, 3, 4, 8, 13; 13 leaves reached ids numbered, 4294967295 for others and the
+ * reached ids in queue, the other rows change nothing. */
 koshirga_walk_answer koshirga_walk(const double *positions, size_t positions_length,
                                    const uint32_t *starts, size_t starts_length,
                                    const uint16_t *entries, size_t entries_length,
@@ -248,13 +257,17 @@ koshirga_walk_answer koshirga_walk(const double *positions, size_t positions_len
                                    uint32_t *queue, size_t queue_length);
 
 /* Renumbers mesh and data by a permutation that holds the new id at each old one, such as a walk's
- * order. values has entries_per_vertex entries a vertex, 1 or the vertex count; a tail shorter than
- * a slab is untouched. The last five slices are scratch, each at least as long as the longest slice
- * before them. An id table keeps the lattice's own ids. Takes over 64 KiB of stack. Rows 2, 3, 17,
- * 18, 3, 4, 6, 7, 8 change nothing. */
+ * order, and sets the mark: a vertex's neighbours get their new ids, and each list is then sorted,
+ * repeats side by side; the order that it had is lost. So a renumbering by the identity sorts the
+ * lists and moves nothing else, and walks and triples of a renumbered mesh follow the sorted lists.
+ * values has entries_per_vertex entries a vertex, 1 or the vertex count; a tail shorter than a slab
+ * is untouched. The last five slices are scratch, each at least as long as the longest slice before
+ * them. An id table keeps the lattice's own ids. Takes over 64 KiB of stack. Rows 2, 3, 17, 18, 3,
+ * 4, 6, 7, 8 change nothing, the mark included. */
 koshirga_verdict_answer koshirga_renumber(double *positions, size_t positions_length,
                                           uint32_t *starts, size_t starts_length,
                                           uint16_t *entries, size_t entries_length,
+                                          bool *lists_ascend,
                                           double *values, size_t values_length,
                                           const uint32_t *permutation, size_t permutation_length,
                                           size_t entries_per_vertex,
@@ -263,6 +276,15 @@ koshirga_verdict_answer koshirga_renumber(double *positions, size_t positions_le
                                           uint16_t *old_entries, size_t old_entries_length,
                                           uint8_t *done, size_t done_length,
                                           double *held, size_t held_length);
+
+/* Reads the neighbour lists of a mesh, such as one from outside, and changes the mark alone: true
+ * where every list ascends, else false, whatever it was. Equal entries side by side ascend, and so
+ * do a list of one entry and an empty one. Positions are only counted: there is no row 5. Rows 2,
+ * 3, 17, 18, 3, 4 leave the mark as it was. */
+koshirga_verdict_answer koshirga_mark_ascending(const double *positions, size_t positions_length,
+                                                const uint32_t *starts, size_t starts_length,
+                                                const uint16_t *entries, size_t entries_length,
+                                                bool *lists_ascend);
 
 /* ---- analytic location */
 
@@ -304,11 +326,13 @@ koshirga_vertex_answer koshirga_analytic_nearest(uint32_t frequency, const uint1
 
 /* Writes the lattice of a frequency from 1 to 80: 10n^2 + 2 vertices (three coordinates each), one
  * start more, 60n^2 entries, and the id table of 20(n + 1)(n + 2)/2 places; surplus places are
- * untouched. Each operation on coordinates is rounded by itself (IEEE 754-2019, 5.4.1 and 4.3.1).
- * Gives a refusal's number or 0. Rows 1, 8 change nothing. */
+ * untouched. Its neighbour lists ascend, and the mark is set. Each operation on coordinates is
+ * rounded by itself (IEEE 754-2019, 5.4.1 and 4.3.1). Gives a refusal's number or 0. Rows 1, 8
+ * change nothing, the mark included. */
 uint32_t koshirga_lattice(uint32_t frequency, double *positions, size_t positions_length,
                           uint32_t *starts, size_t starts_length, uint16_t *entries,
-                          size_t entries_length, uint16_t *ids, size_t ids_length);
+                          size_t entries_length, bool *lists_ascend, uint16_t *ids,
+                          size_t ids_length);
 
 typedef struct koshirga_build_answer {
     uint32_t refusal, side;
@@ -408,7 +432,8 @@ koshirga_located_answer koshirga_grid_locate(const double *positions, size_t pos
 
 /* ---- mesh and grid as structs */
 
-/* A mesh that is read. */
+/* A mesh that is read, and its mark, which is last: an initialiser that ends before it leaves it
+ * false, and so the mesh unmarked. */
 typedef struct koshirga_mesh {
     const double *positions;
     size_t positions_length;
@@ -416,6 +441,7 @@ typedef struct koshirga_mesh {
     size_t starts_length;
     const uint16_t *entries;
     size_t entries_length;
+    bool lists_ascend;
 } koshirga_mesh;
 
 /* A grid that is read: its positions, the pair that it was built with, its side and its slices, cut
@@ -446,6 +472,14 @@ typedef struct koshirga_grid_slices {
     uint16_t *triples;
     size_t triples_length;
 } koshirga_grid_slices;
+
+/* koshirga_mark_ascending of a mesh. Where it is accepted, mesh->lists_ascend says whether every
+ * neighbour list ascends. Where it is refused, *mesh is as it was. */
+static inline koshirga_verdict_answer koshirga_mark_ascending_of(koshirga_mesh *mesh) {
+    return koshirga_mark_ascending(mesh->positions, mesh->positions_length, mesh->starts,
+                                   mesh->starts_length, mesh->entries, mesh->entries_length,
+                                   &mesh->lists_ascend);
+}
 
 /* koshirga_walk of a mesh. */
 static inline koshirga_walk_answer koshirga_walk_mesh(koshirga_mesh mesh, uint32_t *order,

@@ -82,6 +82,14 @@ fn print_balloon(mesh: &MeshData, levels: &[f64], walk: &Walk, grid: &FaceGrid, 
         walk.entries_read
     );
     println!(
+        "  mark           {}",
+        if mesh.lists_ascend {
+            "set: every neighbour list of the renumbered mesh ascends"
+        } else {
+            "not set"
+        }
+    );
+    println!(
         "  grid           side {}, {} cells with {fewest} to {most} ids each, {} in all",
         grid.side,
         cells.len(),

@@ -115,6 +115,7 @@ unsafe extern "C" {
         starts_length: usize,
         entries: *mut u16,
         entries_length: usize,
+        lists_ascend: *mut bool,
         values: *mut f64,
         values_length: usize,
         permutation: *const u32,
@@ -131,6 +132,15 @@ unsafe extern "C" {
         held: *mut f64,
         held_length: usize,
     ) -> VerdictAnswer;
+    fn koshirga_mark_ascending(
+        positions: *const f64,
+        positions_length: usize,
+        starts: *const u32,
+        starts_length: usize,
+        entries: *const u16,
+        entries_length: usize,
+        lists_ascend: *mut bool,
+    ) -> VerdictAnswer;
 
     fn koshirga_lattice(
         frequency: u32,
@@ -140,6 +150,7 @@ unsafe extern "C" {
         starts_length: usize,
         entries: *mut u16,
         entries_length: usize,
+        lists_ascend: *mut bool,
         ids: *mut u16,
         ids_length: usize,
     ) -> u32;
@@ -249,6 +260,7 @@ pub fn renumber(
         positions,
         starts,
         entries,
+        lists_ascend,
     } = mesh;
     let Scratch {
         sources,
@@ -257,7 +269,7 @@ pub fn renumber(
         done,
         held,
     } = scratch;
-    // Safe: pointers and lengths are of slices, and those written are lent alone.
+    // Safe: pointers and lengths are of slices, and those written and the mark are lent alone.
     unsafe {
         koshirga_renumber(
             positions.as_mut_ptr(),
@@ -266,6 +278,7 @@ pub fn renumber(
             starts.len(),
             entries.as_mut_ptr(),
             entries.len(),
+            lists_ascend,
             values.as_mut_ptr(),
             values.len(),
             permutation.as_ptr(),
@@ -285,13 +298,34 @@ pub fn renumber(
     }
 }
 
+pub fn mark_ascending(mesh: Mesh, lists_ascend: &mut bool) -> VerdictAnswer {
+    let Mesh {
+        positions,
+        starts,
+        entries,
+    } = mesh;
+    // Safe: pointers and lengths are of slices, and the mark is lent alone.
+    unsafe {
+        koshirga_mark_ascending(
+            positions.as_ptr(),
+            positions.len(),
+            starts.as_ptr(),
+            starts.len(),
+            entries.as_ptr(),
+            entries.len(),
+            lists_ascend,
+        )
+    }
+}
+
 pub fn lattice(frequency: u32, mesh: MeshMut, ids: &mut [u16]) -> u32 {
     let MeshMut {
         positions,
         starts,
         entries,
+        lists_ascend,
     } = mesh;
-    // Safe: pointers and lengths are of slices, and each is lent alone.
+    // Safe: pointers and lengths are of slices, and each and the mark are lent alone.
     unsafe {
         koshirga_lattice(
             frequency,
@@ -301,6 +335,7 @@ pub fn lattice(frequency: u32, mesh: MeshMut, ids: &mut [u16]) -> u32 {
             starts.len(),
             entries.as_mut_ptr(),
             entries.len(),
+            lists_ascend,
             ids.as_mut_ptr(),
             ids.len(),
         )
@@ -528,6 +563,18 @@ pub mod tests {
         same!("face", FaceAnswer, refusal, face);
         same!("vertex", VertexAnswer, refusal, id);
         same!("analytic", AnalyticAnswer, refusal);
+    }
+
+    /// An initialiser of the slices alone leaves the mark of the header's mesh false.
+    #[test]
+    fn mark_is_last_in_the_headers_mesh() {
+        let header = include_str!("../../include/koshirga.h");
+        let (_, rest) = header
+            .split_once("\ntypedef struct koshirga_mesh {\n")
+            .unwrap();
+        let (fields, _) = rest.split_once("\n} koshirga_mesh;\n").unwrap();
+        let last = fields.lines().last().map(str::trim);
+        assert_eq!(last, Some("bool lists_ascend;"));
     }
 
     /// The constants of the header's `enum koshirga_...`, each `KOSHIRGA_NAME = NUMBER` in a line

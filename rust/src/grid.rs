@@ -268,6 +268,7 @@ impl<'a> FaceGrid<'a> {
     ///         positions: vec![1.0, y, 1.0],
     ///         starts: vec![0, 0],
     ///         entries: vec![],
+    ///         lists_ascend: false,
     ///     };
     ///     FaceGrid::new(mesh.as_mesh()).map(|grid| grid.held())
     /// };
@@ -436,6 +437,7 @@ mod tests {
             entries: (0..33)
                 .flat_map(|id| (0..33).filter(move |&other| other != id))
                 .collect(),
+            lists_ascend: false,
         };
         let grid = FaceGrid::new(mesh.as_mesh()).unwrap();
         assert_eq!(grid.as_grid().triples.len(), 9 * 33 * 32 * 31 / 6);

@@ -4,8 +4,9 @@ use crate::{ffi, AnalyticLattice, MeshData, MeshMut, Refusal};
 
 /// Writes the lattice of a frequency from 1 to 80: 10n² + 2 vertices with three coordinates each,
 /// as many starts and one more, 60n² entries, and the id table, 20 faces of (n + 1)(n + 2)/2 slots.
-/// Each operation on coordinates is rounded by itself (IEEE 754-2019, 5.4.1 and 4.3.1). Surplus
-/// places are untouched. Rows 1 and 8 change nothing.
+/// Its neighbour lists ascend, and the mark is set. Each operation on coordinates is rounded by
+/// itself (IEEE 754-2019, 5.4.1 and 4.3.1). Surplus places are untouched. Rows 1 and 8 change
+/// nothing, the mark included.
 ///
 /// [`LatticeGeometry::new`](crate::LatticeGeometry::new) brings the slices itself.
 pub fn lattice_geometry(frequency: u32, mesh: MeshMut, ids: &mut [u16]) -> Result<(), Refusal> {
@@ -23,6 +24,7 @@ const GREATEST_FREQUENCY: u32 = 80;
 ///
 /// let lattice = LatticeGeometry::new(20)?;
 /// assert_eq!(lattice.mesh.vertex_count(), 4002);
+/// assert!(lattice.mesh.lists_ascend);
 /// assert!(LatticeGeometry::new(81).is_err());
 /// # Ok::<(), koshirga::Refusal>(())
 /// ```
@@ -52,6 +54,7 @@ impl LatticeGeometry {
                 positions: vec![0.0; 3 * count],
                 starts: vec![0; count + 1],
                 entries: vec![0; 60 * n * n],
+                lists_ascend: false,
             },
             ids: vec![0; 10 * (n + 1) * (n + 2)],
         };
@@ -78,12 +81,15 @@ mod tests {
         let (mut positions, mut starts) = ([0.0; 36], [0; 13]);
         let (mut entries, mut ids) = ([0; 61], [0; 60]);
         entries[60] = 7;
+        let mut lists_ascend = false;
         let mesh = MeshMut {
             positions: &mut positions,
             starts: &mut starts,
             entries: &mut entries,
+            lists_ascend: &mut lists_ascend,
         };
         assert_eq!(lattice_geometry(1, mesh, &mut ids), Ok(()));
+        assert!(lists_ascend);
         assert_eq!(entries[..5], [1, 2, 3, 6, 7]);
         assert_eq!((starts[1], starts[12], entries[60]), (5, 60, 7));
     }
@@ -108,13 +114,18 @@ mod tests {
     #[test]
     fn refused() {
         for (frequency, row) in [(0, 1), (81, 1), (1, 8)] {
-            let mesh = MeshMut {
-                positions: &mut [],
-                starts: &mut [],
-                entries: &mut [],
-            };
-            let answer = lattice_geometry(frequency, mesh, &mut []);
-            assert_eq!(answer.err().map(Refusal::number), Some(row));
+            for before in [false, true] {
+                let mut lists_ascend = before;
+                let mesh = MeshMut {
+                    positions: &mut [],
+                    starts: &mut [],
+                    entries: &mut [],
+                    lists_ascend: &mut lists_ascend,
+                };
+                let answer = lattice_geometry(frequency, mesh, &mut []);
+                assert_eq!(answer.err().map(Refusal::number), Some(row));
+                assert_eq!(lists_ascend, before);
+            }
         }
     }
 }

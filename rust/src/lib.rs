@@ -38,7 +38,8 @@ pub use binary64::{ceil, floor, mul_add, rank, sqrt, to_i64, total_cmp, Conversi
 pub use grid::{build_grid, Built, FaceGrid, Grid, GridMut, Located, Nearest, Settings};
 pub use lattice::{lattice_geometry, LatticeGeometry};
 pub use mesh::{
-    apply_vertex_permutation, bfs_vertex_permutation, Mesh, MeshData, MeshMut, Scratch, Walk,
+    apply_vertex_permutation, bfs_vertex_permutation, mark_ascending, Mesh, MeshData, MeshMut,
+    Scratch, Walk,
 };
 pub use refusal::Refusal;
 pub use vector::Vector3;

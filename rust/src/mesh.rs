@@ -1,8 +1,9 @@
-//! The walk over a mesh, and its renumbering.
+//! The walk over a mesh, its renumbering, and the mark that its lists ascend.
 
 use crate::{ffi, Refusal, Vector3};
 
-/// A mesh: vertices and their neighbour lists.
+/// A mesh: vertices and their neighbour lists. It is lent without its mark, as no outcome of the
+/// calls that take it depends on that.
 #[derive(Clone, Copy, Debug)]
 pub struct Mesh<'a> {
     /// Three coordinates a vertex.
@@ -22,6 +23,9 @@ pub struct MeshMut<'a> {
     pub starts: &'a mut [u32],
     /// The neighbour lists, one behind another.
     pub entries: &'a mut [u16],
+    /// The mark: see [`MeshData::lists_ascend`]. An accepted call sets it, and a refused one leaves
+    /// it as it was.
+    pub lists_ascend: &'a mut bool,
 }
 
 /// Scratch of a renumbering: each slice as long as the longest list of mesh, data and permutation.
@@ -58,10 +62,15 @@ pub fn bfs_vertex_permutation(
     Ok(answer.entries_read)
 }
 
-/// Renumbers mesh and data by a permutation that holds the new id at each old one. The data has 1
-/// or as many entries a vertex as there are vertices, and in the second form both indices move; a
-/// tail shorter than a slab is untouched. Rows 2, 3, 17, 18, 3, 4, 6, 7 and 8 change nothing. An id
-/// table is not renumbered: it keeps the lattice's own ids. The call takes over 64 KiB of stack.
+/// Renumbers mesh and data by a permutation that holds the new id at each old one, and sets the
+/// mark. A vertex's neighbours get their new ids, and each list is then sorted, repeats side by
+/// side; the order that it had is lost. So a renumbering by the identity sorts the lists and moves
+/// nothing else, and walks and triples of a renumbered mesh follow the sorted lists.
+///
+/// The data has 1 or as many entries a vertex as there are vertices, and in the second form both
+/// indices move; a tail shorter than a slab is untouched. Rows 2, 3, 17, 18, 3, 4, 6, 7 and 8 change
+/// nothing, the mark included. An id table is not renumbered: it keeps the lattice's own ids. The
+/// call takes over 64 KiB of stack.
 ///
 /// [`MeshData::apply_vertex_permutation`](crate::MeshData::apply_vertex_permutation) brings the
 /// scratch itself.
@@ -76,6 +85,18 @@ pub fn apply_vertex_permutation(
     Refusal::check_at(answer.refusal, answer.index)
 }
 
+/// Reads the neighbour lists of a mesh, such as one from outside, and changes the mark alone: true
+/// where every list ascends, else false, whatever it was. Equal entries side by side ascend, and so
+/// do a list of one entry and an empty one. Positions are only counted: there is no row 5. Rows 2,
+/// 3, 17, 18, 3 and 4 leave the mark as it was.
+///
+/// [`MeshData::mark_ascending`](crate::MeshData::mark_ascending) is the same for a mesh with its own
+/// mark.
+pub fn mark_ascending(mesh: Mesh, lists_ascend: &mut bool) -> Result<(), Refusal> {
+    let answer = ffi::mark_ascending(mesh, lists_ascend);
+    Refusal::check_at(answer.refusal, answer.index)
+}
+
 /// What an accepted walk gives.
 #[derive(Clone, Debug, PartialEq, Eq)]
 pub struct Walk {
@@ -87,7 +108,8 @@ pub struct Walk {
     pub entries_read: u32,
 }
 
-/// A mesh that holds its lists itself.
+/// A mesh that holds its lists itself, and its mark. Where these come from outside, the mark is
+/// false until [`MeshData::mark_ascending`]. Meshes are equal where lists and mark are.
 #[derive(Clone, Debug, PartialEq)]
 pub struct MeshData {
     /// Three coordinates a vertex.
@@ -96,6 +118,13 @@ pub struct MeshData {
     pub starts: Vec<u32>,
     /// The neighbour lists, one behind another.
     pub entries: Vec<u16>,
+    /// The mark. True says that every neighbour list ascends: no entry is below the one before it,
+    /// so that repeats stand side by side. An accepted [lattice](crate::lattice_geometry) or
+    /// [renumbering](crate::apply_vertex_permutation) sets it, and [`mark_ascending`] sets or clears
+    /// it by what it reads; a refused call leaves it as it was. No other call is lent it, and no
+    /// other outcome of any call depends on it. Nobody checks a caller who writes it himself, or who
+    /// changes lists behind a true one.
+    pub lists_ascend: bool,
 }
 
 impl MeshData {
@@ -114,6 +143,7 @@ impl MeshData {
             positions: &mut self.positions,
             starts: &mut self.starts,
             entries: &mut self.entries,
+            lists_ascend: &mut self.lists_ascend,
         }
     }
 
@@ -158,6 +188,10 @@ impl MeshData {
     /// let mut levels: Vec<f64> = (0..12).map(f64::from).collect();
     /// mesh.apply_vertex_permutation(&mut levels, &walk.order, 1)?;
     /// assert_eq!(levels[4], 6.0);
+    ///
+    /// // Vertex 5 is 6 now, and its neighbours 1, 2, 4, 9 and 10 are 1, 2, 8, 11 and 7: sorted.
+    /// assert_eq!(mesh.neighbors(6), [1, 2, 7, 8, 11]);
+    /// assert!(mesh.lists_ascend);
     /// # Ok::<(), koshirga::Refusal>(())
     /// ```
     pub fn apply_vertex_permutation(
@@ -183,6 +217,48 @@ impl MeshData {
         };
         let mesh = self.as_mesh_mut();
         apply_vertex_permutation(mesh, values, permutation, entries_per_vertex, scratch)
+    }
+
+    /// Reads whether every neighbour list ascends, and gives the mark as it is then: see
+    /// [`mark_ascending`].
+    ///
+    /// ```
+    /// use koshirga::MeshData;
+    ///
+    /// // From outside, and so unmarked: vertex 0 has its neighbours 2 and 1 in falling order.
+    /// let mut mesh = MeshData {
+    ///     positions: vec![1.0, 0.0, 0.0, 0.0, 1.0, 0.0, 0.0, 0.0, 1.0],
+    ///     starts: vec![0, 2, 3, 4],
+    ///     entries: vec![2, 1, 0, 0],
+    ///     lists_ascend: false,
+    /// };
+    /// assert!(!mesh.mark_ascending()?);
+    ///
+    /// // A renumbering by the identity sorts the lists and moves nothing else.
+    /// mesh.apply_vertex_permutation(&mut [], &[0, 1, 2], 1)?;
+    /// assert_eq!(mesh.entries, [1, 2, 0, 0]);
+    /// assert!(mesh.lists_ascend);
+    ///
+    /// // Nobody sees that a list is changed behind the mark, until the lists are read again.
+    /// mesh.entries.swap(0, 1);
+    /// assert!(mesh.lists_ascend);
+    /// assert!(!mesh.mark_ascending()?);
+    /// # Ok::<(), koshirga::Refusal>(())
+    /// ```
+    pub fn mark_ascending(&mut self) -> Result<bool, Refusal> {
+        let MeshData {
+            positions,
+            starts,
+            entries,
+            lists_ascend,
+        } = self;
+        let mesh = Mesh {
+            positions,
+            starts,
+            entries,
+        };
+        mark_ascending(mesh, lists_ascend)?;
+        Ok(*lists_ascend)
     }
 }
 
@@ -239,10 +315,12 @@ mod tests {
     fn renumbered(permutation: &[u32], room: usize) -> (Option<u32>, Vec<f64>, Vec<u16>, Vec<f64>) {
         let (mut positions, mut starts, mut entries) = (POSITIONS, STARTS, ENTRIES);
         let mut values = [10.0, 11.0, 12.0, 13.0, 14.0];
+        let mut lists_ascend = false;
         let mesh = MeshMut {
             positions: &mut positions,
             starts: &mut starts,
             entries: &mut entries,
+            lists_ascend: &mut lists_ascend,
         };
         let scratch = Scratch {
             sources: &mut vec![0; room],
@@ -252,6 +330,7 @@ mod tests {
             held: &mut vec![0.0; room],
         };
         let answer = apply_vertex_permutation(mesh, &mut values, permutation, 1, scratch);
+        assert_eq!(lists_ascend, answer.is_ok());
         (
             answer.err().map(Refusal::number),
             positions.to_vec(),
@@ -269,11 +348,42 @@ mod tests {
         assert_eq!(values, [12.0, 10.0, 11.0, 13.0, 14.0]);
     }
 
+    /// Vertex 2 is 0 now, and its neighbours 0 and 1 are 2 and 1: sorted.
+    #[test]
+    fn renumbering_sorts() {
+        let (code, _, entries, values) = renumbered(&[2, 1, 0, 3], 12);
+        assert_eq!(code, None);
+        assert_eq!(entries, [1, 2, 0, 0]);
+        assert_eq!(values, [12.0, 11.0, 10.0, 13.0, 14.0]);
+    }
+
+    /// The lists ascend as they are; row 17 refuses them where the first start isn't 0.
+    #[test]
+    fn reading() {
+        let read = |starts: &[u32], entries: &[u16], before| {
+            let mesh = Mesh {
+                positions: &POSITIONS,
+                starts,
+                entries,
+            };
+            let mut lists_ascend = before;
+            let answer = mark_ascending(mesh, &mut lists_ascend);
+            (answer.err().map(Refusal::number), lists_ascend)
+        };
+        for before in [false, true] {
+            assert_eq!(read(&STARTS, &ENTRIES, before), (None, true));
+            assert_eq!(read(&STARTS, &[2, 2, 1, 0], before), (None, false));
+            let refused = read(&[1, 1, 2, 4, 4], &ENTRIES, before);
+            assert_eq!(refused, (Some(17), before));
+        }
+    }
+
     fn path() -> MeshData {
         MeshData {
             positions: POSITIONS[..9].to_vec(),
             starts: STARTS[..4].to_vec(),
             entries: ENTRIES.to_vec(),
+            lists_ascend: false,
         }
     }
 
@@ -306,6 +416,7 @@ mod tests {
             positions: POSITIONS.to_vec(),
             starts: STARTS.to_vec(),
             entries: ENTRIES.to_vec(),
+            lists_ascend: false,
         };
         let refused = island.bfs_vertex_permutation();
         assert_eq!(refused.map_err(Refusal::number), Err(13));

@@ -81,6 +81,7 @@ impl Refusal {
     ///     positions: vec![1.0, 0.0, 0.0, 0.0, 1.0, 0.0, 0.0, 0.0, 1.0],
     ///     starts: vec![0, 3, 2, 4],
     ///     entries: vec![1, 2, 0, 1],
+    ///     lists_ascend: false,
     /// };
     /// let refusal = mesh.bfs_vertex_permutation().unwrap_err();
     /// assert_eq!(refusal.number(), 18);

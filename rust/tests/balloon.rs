@@ -31,10 +31,27 @@ fn vertices_and_levels_move_together() {
             assert_eq!(mesh.position(new), lattice.mesh.position(id));
             assert_eq!(levels[new], id as f64);
             assert_eq!(walk.queue[new] as usize, id);
-            let neighbors = lattice.mesh.neighbors(id).iter();
-            let renumbered = neighbors.map(|&other| walk.order[usize::from(other)] as u16);
-            assert!(renumbered.eq(mesh.neighbors(new).iter().copied()));
         }
+    }
+}
+
+/// Each list is the earlier one with new ids, sorted; some of these ids are out of order before.
+#[test]
+fn neighbors_are_sorted_by_their_new_ids() {
+    for frequency in FREQUENCIES {
+        let (lattice, walk, mesh, _) = prepared(frequency);
+        assert!(lattice.mesh.lists_ascend && mesh.lists_ascend);
+        let mut out_of_order = 0;
+        for (id, &new) in walk.order.iter().enumerate() {
+            let neighbors = lattice.mesh.neighbors(id).iter();
+            let mut renumbered: Vec<u16> = neighbors
+                .map(|&other| walk.order[usize::from(other)] as u16)
+                .collect();
+            out_of_order += usize::from(!renumbered.is_sorted());
+            renumbered.sort();
+            assert_eq!(mesh.neighbors(new as usize), renumbered);
+        }
+        assert!(out_of_order > 0, "frequency {frequency}");
     }
 }
 

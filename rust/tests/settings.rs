@@ -49,6 +49,7 @@ fn points(positions: impl IntoIterator<Item = Vector3>) -> MeshData {
         starts: vec![0; positions.len() / 3 + 1],
         positions,
         entries: vec![],
+        lists_ascend: false,
     }
 }
 

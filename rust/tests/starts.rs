@@ -16,20 +16,26 @@ fn mesh(vertices: u16, starts: &[u32], entries: &[u16]) -> MeshData {
             .collect(),
         starts: starts.to_vec(),
         entries: entries.to_vec(),
+        lists_ascend: false,
     }
 }
 
-/// The one refusal of the walk, the renumbering and the builder. The mesh stays as it is.
+/// The one refusal of the walk, the renumbering, the reading call and the builder. The mesh stays as
+/// it is, its mark too.
 fn refusal_of(mut mesh: MeshData) -> Refusal {
-    let before = mesh.clone();
     let count = mesh.vertex_count() as u32;
     let backwards: Vec<u32> = (0..count).rev().collect();
     let mut levels: Vec<f64> = (0..count).map(f64::from).collect();
     let walk = mesh.bfs_vertex_permutation().unwrap_err();
-    let renumbering = mesh.apply_vertex_permutation(&mut levels, &backwards, 1);
-    assert_eq!(renumbering, Err(walk));
+    for lists_ascend in [false, true] {
+        mesh.lists_ascend = lists_ascend;
+        let before = mesh.clone();
+        let renumbering = mesh.apply_vertex_permutation(&mut levels, &backwards, 1);
+        assert_eq!(renumbering, Err(walk));
+        assert_eq!(mesh.mark_ascending(), Err(walk));
+        assert_eq!(mesh, before);
+    }
     assert!(levels.into_iter().eq((0..count).map(f64::from)));
-    assert_eq!(mesh, before);
     assert_eq!(FaceGrid::new(mesh.as_mesh()).unwrap_err(), walk);
     walk
 }
@@ -95,6 +101,7 @@ fn starts_that_are_accepted() {
             .clone()
             .apply_vertex_permutation(&mut levels, &walk.order, 1);
         assert_eq!(renumbering, Ok(()));
+        assert_eq!(mesh.clone().mark_ascending(), Ok(true));
         assert!(FaceGrid::new(mesh.as_mesh()).is_ok());
     }
 }

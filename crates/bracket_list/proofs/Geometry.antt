@@ -3,7 +3,7 @@ use Prim.Native.Nat.{ℕ, _+_, _*_, _≤_}
 use native.Mathlib.Nat.{mul-le-mul}
 use native.Mathlib.Omega.{arith}
 use mathlib.Core.Path.{_≡_, refl, ap, _∙_}
-use mathlib.Core.Bool.{true}
+use mathlib.Core.Bool.{Bool, true}
 use mathlib.Core.List.{List}
 use lib.ListN.{length, take}
 use lib.Ieee.{Float}
@@ -46,9 +46,9 @@ module _ (n : ℕ) (lo : 1 ≤ n) (hi : n ≤ 4) where
         let ids : length (idTable n) ≤ length (lent .ids) = omega (arith, ids-few) in
         rw (le-leb _ _ positions, le-leb _ _ starts, le-leb _ _ entries, le-leb _ _ ids) refl
 
-    pub geometry-filled : latticeGeometry n lent ≡ record { verdict = Passed; slices = filled n lent }
+    pub geometry-filled : (mark : Bool) → latticeGeometry n lent mark ≡ record { verdict = Passed; slices = filled n lent; mark = true }
     unfolding latticeGeometry
-    geometry-filled = rw (frequency-fits n lo (omega arith), long) refl
+    geometry-filled mark = rw (frequency-fits n lo (omega arith), long) refl
 
 -- what a call leaves in the slices that are read on
 pub record Filled (n : ℕ) (starts entries : List ℕ) : Type 0 where
@@ -57,11 +57,11 @@ pub record Filled (n : ℕ) (starts entries : List ℕ) : Type 0 where
   pub entries-room : 60 * (n * n) ≤ length entries
   pub entries-front : take (60 * (n * n)) entries ≡ latticeMesh n .entries
 
-pub geometry-left : (n : ℕ) → 1 ≤ n → n ≤ 4 → {verdict : Verdict} {positions : List Float} {starts entries ids : List ℕ} (lent : LatticeSlices) → 486 ≤ length (lent .positions)
-    → 163 ≤ length (lent .starts) → 960 ≤ length (lent .entries) → 300 ≤ length (lent .ids) → outcome verdict positions starts entries ids ≡ latticeGeometry n lent → Filled n starts entries
+pub geometry-left : (n : ℕ) → 1 ≤ n → n ≤ 4 → {verdict : Verdict} {positions : List Float} {starts entries ids : List ℕ} {mark₁ : Bool} (mark : Bool) (lent : LatticeSlices) → 486 ≤ length (lent .positions)
+    → 163 ≤ length (lent .starts) → 960 ≤ length (lent .entries) → 300 ≤ length (lent .ids) → outcome verdict positions starts entries mark₁ ids ≡ latticeGeometry n lent mark → Filled n starts entries
 unfolding filled
-geometry-left n lo hi {verdict} {positions} {starts} {entries} {ids} lent p s e t h =
-    let left = h ∙ geometry-filled n lo hi lent p s e t in
+geometry-left n lo hi {verdict} {positions} {starts} {entries} {ids} mark lent p s e t h =
+    let left = h ∙ geometry-filled n lo hi lent p s e t mark in
     let starts-are : starts ≡ overwrite (latticeMesh n .starts) (lent .starts) = ap (λ (o : LatticeOutcome). o .slices .starts) left in
     let entries-are : entries ≡ overwrite (latticeMesh n .entries) (lent .entries) = ap (λ (o : LatticeOutcome). o .slices .entries) left in
     let starts-size = starts-length n lo hi in

@@ -214,12 +214,14 @@ fn list_lattice(frequency: u32, output: &mut [u8; 16384]) -> usize
     let mut positions = [0.0f64; 486];
     let mut starts = [0u32; 163];
     let mut entries = [0u16; 960];
+    let mut lists_ascend = false;
     let mut ids = [0u16; 300];
     lattice::lattice_geometry(
         frequency,
         &mut positions,
         &mut starts,
         &mut entries,
+        &mut lists_ascend,
         &mut ids,
     );
     let n = frequency as usize;

@@ -12,6 +12,7 @@ ghost use Rattle.root.specs.Root.{squareRoot};
 ghost use Rattle.vector.specs.Vector.{dotProduct, crossProduct, vectorDifference, vectorSum, vectorMultiple, vectorQuotient, squaredLength, lengthOf, normalized};
 ghost use Rattle.vector.specs.Direction.{directionOf};
 ghost use Rattle.mesh.specs.Mesh.{meshOf};
+ghost use Rattle.mesh.specs.Mark.{markAscending};
 ghost use Rattle.walk.specs.Walk.{walkOutcome};
 ghost use Rattle.renumber.specs.Renumber.{callOf, scratchOf, renumber};
 ghost use Rattle.lattice.specs.Lattice.{slicesOf, latticeGeometry};
@@ -26,7 +27,7 @@ ghost use Rattle.grid.specs.Stored.{lentGrid};
 ghost use Rattle.grid_query.specs.Nearest.{nearestVertex};
 ghost use Rattle.grid_query.specs.Locate as grid_location;
 ghost use Rattle.c_api.specs.Code.{orderingCode, conversionCode, conversionAnswer, directionCode, signsOf, outsideOf, faceAnswer, analyticAnswer, vertexAnswer, nearestAnswer, locatedAnswer};
-ghost use Rattle.c_api.specs.Lent.{walkLeft, walkLeftOf, renumberLeft, renumberLeftOf, latticeLeft, latticeLeftOf, buildLeft, buildLeftOf};
+ghost use Rattle.c_api.specs.Lent.{walkLeft, walkLeftOf, markLeft, markLeftOf, renumberLeft, renumberLeftOf, latticeLeft, latticeLeftOf, buildLeft, buildLeftOf};
 use analytic::FaceChoice;
 use analytic::Location;
 use analytic::Signs;
@@ -390,12 +391,36 @@ pub extern "C" fn koshirga_walk(
     }
 }
 
-// After a refusal all slices are as they were.
+// After a refusal the mark is as it was.
+#[no_mangle]
+pub extern "C" fn koshirga_mark_ascending(
+    positions: &[f64],
+    starts: &[u32],
+    entries: &[u16],
+    lists_ascend: &mut bool,
+) -> VerdictAnswer
+    ensures { λ r. ⌜ markLeft r (now («lists_ascend» .exit)) ≡ markLeftOf (markAscending (meshOf (now (positions .entry)) (now (starts .entry)) (now (entries .entry))) (now («lists_ascend» .entry))) ⌝ }
+{
+    let verdict = mesh::mark_ascending(positions, starts, entries, lists_ascend);
+    match verdict {
+        Verdict::Refused(reason) => VerdictAnswer {
+            refusal: reason.number,
+            index: reason.index,
+        },
+        Verdict::Passed => VerdictAnswer {
+            refusal: 0,
+            index: 0,
+        },
+    }
+}
+
+// After a refusal all slices and the mark are as they were.
 #[no_mangle]
 pub extern "C" fn koshirga_renumber(
     positions: &mut [f64],
     starts: &mut [u32],
     entries: &mut [u16],
+    lists_ascend: &mut bool,
     values: &mut [f64],
     permutation: &[u32],
     entries_per_vertex: usize,
@@ -405,13 +430,14 @@ pub extern "C" fn koshirga_renumber(
     done: &mut [u8],
     held: &mut [f64],
 ) -> VerdictAnswer
-    ensures { λ r. ⌜ renumberLeft r (meshOf (now (positions .exit)) (now (starts .exit)) (now (entries .exit))) (now (values .exit)) ≡ renumberLeftOf (renumber (meshOf (now (positions .entry)) (now (starts .entry)) (now (entries .entry))) (now (values .entry)) (callOf (now (permutation .entry)) «entries_per_vertex» (length (now (sources .entry)) ∷ length (now («old_starts» .entry)) ∷ length (now («old_entries» .entry)) ∷ length (now (done .entry)) ∷ length (now (held .entry)) ∷ []))) ⌝ }
+    ensures { λ r. ⌜ renumberLeft r (meshOf (now (positions .exit)) (now (starts .exit)) (now (entries .exit))) (now («lists_ascend» .exit)) (now (values .exit)) ≡ renumberLeftOf (renumber (meshOf (now (positions .entry)) (now (starts .entry)) (now (entries .entry))) (now («lists_ascend» .entry)) (now (values .entry)) (callOf (now (permutation .entry)) «entries_per_vertex» (length (now (sources .entry)) ∷ length (now («old_starts» .entry)) ∷ length (now («old_entries» .entry)) ∷ length (now (done .entry)) ∷ length (now (held .entry)) ∷ []))) ⌝ }
     ensures { λ r. ⌜ (0 < r .refusal → scratchOf (now (sources .exit)) (now («old_starts» .exit)) (now («old_entries» .exit)) (now (done .exit)) (now (held .exit)) ≡ scratchOf (now (sources .entry)) (now («old_starts» .entry)) (now («old_entries» .entry)) (now (done .entry)) (now (held .entry))) ⌝ }
 {
     let verdict = renumber::apply_vertex_permutation(
         positions,
         starts,
         entries,
+        lists_ascend,
         values,
         permutation,
         entries_per_vertex,
@@ -433,18 +459,26 @@ pub extern "C" fn koshirga_renumber(
     }
 }
 
-// 0 where the lattice was written, and otherwise the refusal's number: then all slices are as they were.
+// 0 where the lattice was written, and otherwise the refusal's number: then all slices and the mark are as they were.
 #[no_mangle]
 pub extern "C" fn koshirga_lattice(
     frequency: u32,
     positions: &mut [f64],
     starts: &mut [u32],
     entries: &mut [u16],
+    lists_ascend: &mut bool,
     ids: &mut [u16],
 ) -> u32
-    ensures { λ r. ⌜ latticeLeft r (slicesOf (now (positions .exit)) (now (starts .exit)) (now (entries .exit)) (now (ids .exit))) ≡ latticeLeftOf (latticeGeometry frequency (slicesOf (now (positions .entry)) (now (starts .entry)) (now (entries .entry)) (now (ids .entry)))) ⌝ }
+    ensures { λ r. ⌜ latticeLeft r (slicesOf (now (positions .exit)) (now (starts .exit)) (now (entries .exit)) (now (ids .exit))) (now («lists_ascend» .exit)) ≡ latticeLeftOf (latticeGeometry frequency (slicesOf (now (positions .entry)) (now (starts .entry)) (now (entries .entry)) (now (ids .entry))) (now («lists_ascend» .entry))) ⌝ }
 {
-    let verdict = lattice::lattice_geometry(frequency, positions, starts, entries, ids);
+    let verdict = lattice::lattice_geometry(
+        frequency,
+        positions,
+        starts,
+        entries,
+        lists_ascend,
+        ids,
+    );
     match verdict {
         Verdict::Refused(reason) => reason.number,
         Verdict::Passed => 0,

@@ -1,3 +1,4 @@
 pub mod AfterCalls
 pub mod Grids
 pub mod Invariance
+pub mod Mark

@@ -1,6 +1,7 @@
 -- A list of renumbering calls, and the accumulated permutation that follows it (document 01, "Lists of renumberings, for demand 3"). Definitions only.
 use Prim.Native.Nat.{ℕ}
 use mathlib.Core.Path.{_≡_}
+use mathlib.Core.Bool.{Bool}
 use mathlib.Core.List.{List, [], _∷_}
 use lib.Ieee.{Float}
 use Rattle.sequences.specs.Permutation.{identity, compose}
@@ -9,15 +10,19 @@ use Rattle.refusal.specs.Refusal.{answer}
 use Rattle.mesh.specs.Mesh.{Mesh, count}
 use Rattle.renumber.specs.Renumber.{Call, callRows, longestLength, renumber}
 
--- What the calls of a list are lent, each as the one before it left it.
+-- What the calls of a list are lent, each as the one before it left it: mesh, its mark (W-208) and data.
 pub record State : Type 0 where
   pub mesh : Mesh
+  pub mark : Bool
   pub values : List Float
+
+abbrev pub stateOf : Mesh → Bool → List Float → State
+stateOf mesh mark values = record { mesh = mesh; mark = mark; values = values }
 
 unfoldable pub afterCall : State → Call → State
 afterCall state call =
-    let outcome = renumber (state .mesh) (state .values) call in
-    record { mesh = outcome .mesh; values = outcome .values }
+    let outcome = renumber (state .mesh) (state .mark) (state .values) call in
+    stateOf (outcome .mesh) (outcome .mark) (outcome .values)
 
 unfoldable pub afterCalls : State → List Call → State
 afterCalls state [] = state

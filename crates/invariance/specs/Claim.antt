@@ -66,8 +66,8 @@ pub record Invariant (m : Mesh) (values : List Float) (m₁ : Mesh) (values₁ :
   pub injective : (v w : ℕ) → v < count m → w < count m → p v ≡ p w → v ≡ w
   -- "The position at p(v) has the bits that v's had."
   pub positions : (v k : ℕ) → v < count m → k < 3 → getD (m₁ .positions) (p v * 3 + k) nan ≡ getD (m .positions) (v * 3 + k) nan
-  -- "The list of p(v) is v's list with each entry taken through p, in its order."
-  pub lists : (v : ℕ) → v < count m → neighbours m₁ (p v) ≡ map p (neighbours m v)
+  -- "The list of p(v) is v's list with each entry taken through p"; "the mission's last demand compares neighbour lists sorted" (W-208).
+  pub lists : (v : ℕ) → v < count m → sort (neighbours m₁ (p v)) ≡ sort (map p (neighbours m v))
   -- "The mesh passes the builder's mesh rows again."
   pub rows : meshRows m₁ ≡ Passed
   -- "In each whole slab, place p(v) holds what v held"

@@ -11,6 +11,7 @@ pub mod Neighbours
 pub mod Moves
 pub mod ListLengths
 pub mod Rows
+pub mod Mark
 pub mod Naming
 pub mod VertexFill
 pub mod Steps

@@ -1,6 +1,6 @@
 -- The lattice of frequency n (document 01, "Lattice of frequency n"). Definitions only.
 use Prim.Native.Nat.{ℕ, zero, suc, _+_, _-_, _*_}
-use mathlib.Core.Bool.{Bool, _&&_, _||_, cond}
+use mathlib.Core.Bool.{Bool, true, _&&_, _||_, cond}
 use mathlib.Core.List.{List, [], _∷_, _++_, map}
 use lib.Dec.{leb, eqb}
 use lib.ListN.{length, getD}
@@ -136,12 +136,14 @@ slicesFit n lent =
     leb (length (mesh .positions)) (length (lent .positions)) && (leb (length (mesh .starts)) (length (lent .starts))
     && (leb (length (mesh .entries)) (length (lent .entries)) && leb (length (idTable n)) (length (lent .ids))))
 
+-- The answer, the slices at exit, and the mark that the mesh's lists ascend (W-208).
 pub record LatticeOutcome : Type 0 where
   pub verdict : Verdict
   pub slices : LatticeSlices
+  pub mark : Bool
 
-abbrev pub outcome : Verdict → List Float → List ℕ → List ℕ → List ℕ → LatticeOutcome
-outcome verdict positions starts entries ids = record { verdict = verdict; slices = slicesOf positions starts entries ids }
+abbrev pub outcome : Verdict → List Float → List ℕ → List ℕ → Bool → List ℕ → LatticeOutcome
+outcome verdict positions starts entries mark ids = record { verdict = verdict; slices = slicesOf positions starts entries ids; mark = mark }
 
 -- "surplus is untouched"
 unfoldable pub filled : ℕ → LatticeSlices → LatticeSlices
@@ -155,7 +157,11 @@ filled n lent =
     }
 
 -- Rows 1, 8.
-unfoldable pub latticeGeometry : ℕ → LatticeSlices → LatticeOutcome
-latticeGeometry n lent =
-    answer (row (frequencyFits n) (refusal 1) (row (slicesFit n lent) (refusal 8) Passed))
-    (λ reason. record { verdict = Refused reason; slices = lent }) (record { verdict = Passed; slices = filled n lent })
+abbrev pub geometryRows : ℕ → LatticeSlices → Verdict
+geometryRows n lent = row (frequencyFits n) (refusal 1) (row (slicesFit n lent) (refusal 8) Passed)
+
+-- "a lattice and an accepted renumbering set it" (W-208): the mark, which a refused call leaves as it leaves the slices.
+unfoldable pub latticeGeometry : ℕ → LatticeSlices → Bool → LatticeOutcome
+latticeGeometry n lent mark =
+    answer (geometryRows n lent) (λ reason. record { verdict = Refused reason; slices = lent; mark = mark })
+    (record { verdict = Passed; slices = filled n lent; mark = true })

@@ -51,7 +51,7 @@ module _ (starts : List ℕ) where
       go (inr e) = e
 
   -- the start at i, and the one before it, as a pair of neighbours
-  pair-of : (i : ℕ) → 1 ≤ i → getD starts (suc (i - 1)) 0 ≡ getD starts i 0
+  pub pair-of : (i : ℕ) → 1 ≤ i → getD starts (suc (i - 1)) 0 ≡ getD starts i 0
   pair-of i h = ap (λ (k : ℕ). getD starts k 0) (let e : suc (i - 1) ≡ i = omega arith in e)
 
   pub fall-none : firstFall starts ≡ 0 → (i : ℕ) → 1 ≤ i → i < length starts → getD starts (i - 1) 0 ≤ getD starts i 0

@@ -4,3 +4,4 @@ pub mod Neighbours
 pub mod Renumbered
 pub mod Falls
 pub mod Refusals
+pub mod Mark

@@ -1,3 +1,4 @@
 pub mod Mesh
 pub mod Rows
 pub mod Adjacency
+pub mod Mark

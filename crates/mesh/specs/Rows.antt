@@ -32,7 +32,7 @@ startsCounted n starts = eqb (length starts) (suc n)
 unfoldable pub startsSpan : ℕ → List ℕ → List ℕ → Bool
 startsSpan n starts entries = eqb (getD starts 0 0) 0 && eqb (getD starts n 0) (length entries)
 
--- The start behind the one at v is not below it.
+-- The start behind the one at v is not below it; the same is asked of a list's entries where it ascends.
 abbrev pub notFalling : List ℕ → ℕ → Bool
 notFalling starts v = leb (getD starts v 0) (getD starts (suc v) 0)
 

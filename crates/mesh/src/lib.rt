@@ -1,12 +1,14 @@
 // Rows 2 to 6 of document 01's table, with rows 17 and 18 of W-209: what an operation asks of the mesh that it is lent, and of a permutation
-// of its ids.
+// of its ids. The call that reads whether the neighbour lists ascend (W-208).
 ghost use mathlib.Core.Path.{_≡_};
 ghost use mathlib.Core.Bool.{true};
 ghost use Prim.Native.Nat.{suc, _*_, _+_, _≤_, _<_};
 ghost use lib.ListN.{length};
 ghost use Rattle.sequences.specs.Permutation.{isPermutation};
+ghost use Rattle.refusal.specs.declared.Verdict.the-variants.{Passed};
 ghost use Rattle.mesh.specs.Mesh.{meshOf, vertexCount, positionOf};
 ghost use Rattle.mesh.specs.Rows.{greatestCount, positionsFit, startsCounted, startsSpan, startsAscend, firstFall, listsLimited, idsBelow, listRows, positionsAdmissible, adjacencyRows, meshRows};
+ghost use Rattle.mesh.specs.Mark.{listAscends, listsAscend, markOutcome, markAscending};
 use refusal::Refusal;
 use refusal::Verdict;
 use vector::Vector3;
@@ -87,18 +89,23 @@ fn lists_limited(count: usize, starts: &[u32]) -> bool
     true
 }
 
-// Row 4.
+// Row 4. The greatest id decides: a loop that is left nowhere but at its end takes several ids at a time.
 pub fn ids_below(count: usize, ids: &[u16]) -> bool
     ensures { λ r. ⌜ r ≡ idsBelow count (now (ids .entry)) ⌝ }
 {
-    let mut i = 0;
+    if ids.len() == 0 {
+        return true;
+    }
+    let mut greatest = ids[0];
+    let mut i = 1;
     while i < ids.len() {
-        if ids[i] as usize >= count {
-            return false;
+        let id = ids[i];
+        if greatest < id {
+            greatest = id;
         }
         i += 1;
     }
-    true
+    (greatest as usize) < count
 }
 
 // Rows 3 and 4, 17 and 18 among them, of the neighbour lists of so many vertices.
@@ -164,6 +171,58 @@ pub fn check_mesh(positions: &[f64], starts: &[u32], entries: &[u16]) -> Verdict
             } else {
                 Verdict::Refused(Refusal::new(5))
             }
+        }
+    }
+}
+
+// Whether a list ascends; repeats may stand side by side.
+fn list_ascends(list: &[u16]) -> bool
+    ensures { λ r. ⌜ r ≡ listAscends (now (list .entry)) ⌝ }
+{
+    let mut i = 1;
+    while i < list.len() {
+        if list[i] < list[i - 1] {
+            return false;
+        }
+        i += 1;
+    }
+    true
+}
+
+// Whether all neighbour lists do.
+fn every_list_ascends(positions: &[f64], starts: &[u32], entries: &[u16]) -> bool
+    requires { ⌜ adjacencyRows (meshOf (now positions) (now starts) (now entries)) ≡ Passed ⌝ }
+    ensures { λ r. ⌜ r ≡ listsAscend (meshOf (now (positions .entry)) (now (starts .entry)) (now (entries .entry))) ⌝ }
+{
+    let count = positions.len() / 3;
+    let mut vertex = 0;
+    while vertex < count {
+        let start = starts[vertex] as usize;
+        let end = starts[vertex + 1] as usize;
+        let list = &entries[start..end];
+        if !list_ascends(list) {
+            return false;
+        }
+        vertex += 1;
+    }
+    true
+}
+
+// Reads the lists of a mesh: behind rows 2 to 4 the mark is set where all of them ascend, and else cleared. A refusal leaves it.
+pub fn mark_ascending(
+    positions: &[f64],
+    starts: &[u32],
+    entries: &[u16],
+    lists_ascend: &mut bool,
+) -> Verdict
+    ensures { λ r. ⌜ markOutcome r (now («lists_ascend» .exit)) ≡ markAscending (meshOf (now (positions .entry)) (now (starts .entry)) (now (entries .entry))) (now («lists_ascend» .entry)) ⌝ }
+{
+    let adjacency = check_adjacency(positions, starts, entries);
+    match adjacency {
+        Verdict::Refused(reason) => Verdict::Refused(reason),
+        Verdict::Passed => {
+            *lists_ascend = every_list_ascends(positions, starts, entries);
+            Verdict::Passed
         }
     }
 }

@@ -41,6 +41,12 @@ pub answer-refused : {A : Type 0} (P : A → Type 0) (v : Verdict) (refused : Re
 answer-refused P Passed refused accepted reason never tells h = absurd (never h)
 answer-refused P (Refused other) refused accepted reason never tells h = ap Refused (tells other h)
 
+-- two answers behind the same rows stand to each other as their cases do
+pub answers-relate : {A B : Type 0} (R : A → B → Type 0) (v : Verdict) (refused : Refusal → A) (accepted : A) (refused₁ : Refusal → B) (accepted₁ : B)
+    → ((reason : Refusal) → R (refused reason) (refused₁ reason)) → R accepted accepted₁ → R (answer v refused accepted) (answer v refused₁ accepted₁)
+answers-relate R Passed refused accepted refused₁ accepted₁ both-refused both-accepted = both-accepted
+answers-relate R (Refused reason) refused accepted refused₁ accepted₁ both-refused both-accepted = both-refused reason
+
 -- ---- reasons: what holds of each row's own reason holds of the reason that a chain refuses with
 abbrev pub EachReason : (Refusal → Type 0) → Verdict → Type 0
 EachReason P v = (reason : Refusal) → v ≡ Refused reason → P reason

@@ -1,7 +1,7 @@
--- Laws of one renumbering call: what an accepted one has, and what is left of mesh and data. Assumes nothing.
+-- Laws of one renumbering call: what an accepted one has, and what is left of mesh, mark and data. Assumes nothing.
 use Prim.Native.Nat.{ℕ, max}
 use mathlib.Core.Path.{_≡_, refl}
-use mathlib.Core.Bool.{true}
+use mathlib.Core.Bool.{Bool, true}
 use mathlib.Core.List.{List}
 use lib.ListN.{length}
 use lib.Ieee.{Float}
@@ -36,19 +36,23 @@ pub call-rows-decide : (m : Mesh) → AdjacencyFacts m → (values : List Float)
 unfolding renumberRows
 call-rows-decide m facts values call = rw (adjacency-passed m facts) refl
 
-module _ (m : Mesh) (values : List Float) (call : Call) where
-  pub accepted-mesh : renumberRows m values call ≡ Passed → renumber m values call .mesh ≡ renumberedMesh (call .permutation) m
+module _ (m : Mesh) (mark : Bool) (values : List Float) (call : Call) where
+  pub accepted-mesh : renumberRows m values call ≡ Passed → renumber m mark values call .mesh ≡ renumberedMesh (call .permutation) m
   unfolding renumber
   accepted-mesh h = rw h refl
 
-  pub accepted-values : renumberRows m values call ≡ Passed → renumber m values call .values ≡ renumberedData (count m) (call .permutation) (call .entriesPerVertex) values
+  pub accepted-values : renumberRows m values call ≡ Passed → renumber m mark values call .values ≡ renumberedData (count m) (call .permutation) (call .entriesPerVertex) values
   unfolding renumber
   accepted-values h = rw h refl
 
-  pub refused-mesh : (reason : Refusal) → renumberRows m values call ≡ Refused reason → renumber m values call .mesh ≡ m
+  pub accepted-mark : renumberRows m values call ≡ Passed → renumber m mark values call .mark ≡ true
+  unfolding renumber
+  accepted-mark h = rw h refl
+
+  pub refused-mesh : (reason : Refusal) → renumberRows m values call ≡ Refused reason → renumber m mark values call .mesh ≡ m
   unfolding renumber
   refused-mesh reason h = rw h refl
 
-  pub refused-values : (reason : Refusal) → renumberRows m values call ≡ Refused reason → renumber m values call .values ≡ values
+  pub refused-values : (reason : Refusal) → renumberRows m values call ≡ Refused reason → renumber m mark values call .values ≡ values
   unfolding renumber
   refused-values reason h = rw h refl

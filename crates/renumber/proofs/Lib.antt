@@ -1,9 +1,11 @@
 pub mod RenumberedData
 pub mod Blocks
 pub mod Forms
+pub mod Insertion
 pub mod Lists
 pub mod Accepted
 pub mod RenumberedMesh
 pub mod Calls
 pub mod RenumberedBelow
 pub mod Refusals
+pub mod Mark

@@ -1,6 +1,7 @@
 -- What a refused renumbering tells: `renumber-index`. Assumes nothing.
 use native.Mathlib.Omega.{arith}
 use mathlib.Core.Path.{_≡_, sym}
+use mathlib.Core.Bool.{Bool}
 use mathlib.Core.List.{List}
 use lib.ListN.{length}
 use lib.Ieee.{Float}
@@ -15,7 +16,7 @@ use Rattle.mesh.specs.Rows.{adjacencyRows}
 use Rattle.mesh.proofs.Refusals.{IndexTold, told-none, adjacency-index}
 use Rattle.renumber.specs.Renumber.{Call, entriesPerVertexFit, longestLength, scratchFits, callRows, RenumberOutcome, renumberRows, renumber}
 
-module _ (m : Mesh) (values : List Float) (call : Call) where
+module _ (m : Mesh) (mark : Bool) (values : List Float) (call : Call) where
   -- rows 6 to 8 carry no index
   call-index : EachReason (IndexTold (m .starts)) (callRows (count m) (longestLength m values) call)
   unfolding callRows
@@ -27,7 +28,7 @@ module _ (m : Mesh) (values : List Float) (call : Call) where
       reasons-row P (scratchFits (max (longestLength m values) (length (call .permutation))) (call .scratchLengths)) (refusal 8) Passed (λ e. none 8 (λ z. omega arith)) (λ room. reasons-passed P)))
 
   -- 18 carries the index of the first start that falls, every other refusal 0
-  pub renumber-index : (reason : Refusal) → renumber m values call .verdict ≡ Refused reason → IndexTold (m .starts) reason
+  pub renumber-index : (reason : Refusal) → renumber m mark values call .verdict ≡ Refused reason → IndexTold (m .starts) reason
   unfolding renumber renumberRows
   renumber-index reason h =
       reasons-then (IndexTold (m .starts)) (adjacencyRows m) _ (adjacency-index m) call-index reason

@@ -1,6 +1,7 @@
 -- What an accepted renumbering tells: `renumbered-below`. The vertex count is as it was, and every entry that it leaves is below it. Assumes nothing.
 use Prim.Native.Nat.{ℕ, _<_}
 use mathlib.Core.Path.{_≡_}
+use mathlib.Core.Bool.{Bool}
 use mathlib.Core.List.{List}
 use lib.ListN.{length, getD}
 use lib.Ieee.{Float}
@@ -18,19 +19,19 @@ pub record RenumberedFacts (n : ℕ) (m : Mesh) : Type 0 where
   pub same-count : count m ≡ n
   pub entries-below : (i : ℕ) → i < length (m .entries) → getD (m .entries) i 0 < n
 
-passed-rows : (m : Mesh) (values : List Float) (call : Call) → renumber m values call .verdict ≡ Passed → renumberRows m values call ≡ Passed
+passed-rows : (m : Mesh) (mark : Bool) (values : List Float) (call : Call) → renumber m mark values call .verdict ≡ Passed → renumberRows m values call ≡ Passed
 unfolding renumber
-passed-rows m values call h = answer-passed (λ (o : RenumberOutcome). o .verdict ≡ Passed) (renumberRows m values call) _ _ h refused-not-passed
+passed-rows m mark values call h = answer-passed (λ (o : RenumberOutcome). o .verdict ≡ Passed) (renumberRows m values call) _ _ h refused-not-passed
 
 -- every accepted renumbering
-pub renumbered-below : (m : Mesh) (values : List Float) (call : Call) → renumber m values call .verdict ≡ Passed → RenumberedFacts (count m) (renumber m values call .mesh)
+pub renumbered-below : (m : Mesh) (mark : Bool) (values : List Float) (call : Call) → renumber m mark values call .verdict ≡ Passed → RenumberedFacts (count m) (renumber m mark values call .mesh)
 unfolding renumberRows
-renumbered-below m values call h =
-    let passed = passed-rows m values call h in
+renumbered-below m mark values call h =
+    let passed = passed-rows m mark values call h in
     let rows = then-passed (adjacencyRows m) (callRows (count m) (longestLength m values) call) passed in
     let facts = adjacency-facts m (rows .0) in
     let permutes = accepted-permutation (count m) (longestLength m values) call (rows .1) in
-    rw (accepted-mesh m values call passed) (record {
+    rw (accepted-mesh m mark values call passed) (record {
       same-count = renumbered-count m facts permutes;
       entries-below = λ i lt. rw (renumbered-count m facts permutes) at (renumbered-adjacency m facts permutes .ids-below i lt);
     })

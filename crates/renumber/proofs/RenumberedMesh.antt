@@ -1,23 +1,32 @@
--- Laws of a renumbered mesh. It passes the mesh rows again (`renumbered-adjacency`, `renumbered-facts`), its parts have the lengths they had, and positions and lists have gone where the permutation says (`renumbered`).
--- Nothing moves by the identity (`renumbered-mesh-identity`), and one renumbering after another is that by the composition (`renumbered-mesh-compose`). Assumes nothing.
+-- Laws of a renumbered mesh. It passes rows 2 to 4 again (`renumbered-adjacency`), its parts have the lengths they had, and positions and lists have gone where the permutation says (`renumbered`).
+-- Its lists ascend (`renumbered-ascends`). By the identity they are sorted, and nothing else changes (`identity-positions`, `identity-lists`); one renumbering after another is that by the composition (`renumbered-twice`). Assumes nothing.
 use Prim.Native.Nat.{ℕ, suc, _+_, _-_, _*_, _≤_, _<_}
 use native.Mathlib.Omega.{arith}
 use mathlib.Core.Path.{_≡_, refl, sym, ap, _∙_}
-use mathlib.Core.List.{List}
+use mathlib.Core.List.{List, map}
 use lib.ListN.{length, getD}
 use lib.Ieee.{nan}
 use Rattle.sequences.specs.Starts.{concatenate, startsOf}
+use Rattle.sequences.specs.Ascending.{Nondecreasing, sort}
 use Rattle.sequences.specs.Permutation.{at, IsPermutation, inverse, identity, compose, movedBlocks, relabelled}
 use Rattle.sequences.proofs.Tabulate.{getD-member}
 use Rattle.sequences.proofs.Starts.{length-starts, starts-at, start-suc, starts-extensional, length-concatenate, concatenate-extensional, concatenate-member, concatenate-part, compressed-rows}
-use Rattle.sequences.proofs.Permutation.{permutation-bijection, length-moved-blocks, moved-blocks-from, moved-blocks-identity, moved-blocks-compose, relabelled-at, length-relabelled, relabelled-total, relabelled-below, relabelled-identity, relabelled-compose, relabelled-extensional}
-use Rattle.vector.specs.Direction.{admissible}
+use Rattle.sequences.proofs.Sorted.{sort-again}
+use Rattle.sequences.proofs.Permutation.{permutation-bijection, length-moved-blocks, moved-blocks-from, moved-blocks-identity, moved-blocks-compose, relabelled-at, length-relabelled, relabelled-total, relabelled-below, relabelled-nondecreasing, relabelled-identity, relabelled-compose, relabelled-extensional}
 use Rattle.mesh.specs.Mesh.{Mesh, count, positionOf, neighbours}
 use Rattle.mesh.specs.Rows.{longestList}
-use Rattle.mesh.proofs.Facts.{AdjacencyFacts, MeshFacts}
-use Rattle.mesh.proofs.Neighbours.{neighbour-below, neighbours-limited, starts-of-neighbours, entries-of-neighbours}
+use Rattle.mesh.proofs.Facts.{AdjacencyFacts}
+use Rattle.mesh.proofs.Neighbours.{neighbour-below, neighbours-limited, entries-of-neighbours}
 use Rattle.mesh.proofs.Renumbered.{Renumbered}
 use Rattle.renumber.specs.Renumber.{renumberedMesh}
+
+neighbours-from : (m : Mesh) (q : List ℕ) (i : ℕ) → i < count m → neighbours (renumberedMesh q m) i ≡ relabelled q (neighbours m) i
+unfolding neighbours renumberedMesh
+neighbours-from m q i lt = concatenate-part (count m) (relabelled q (neighbours m)) i lt
+
+-- "ascending order, repeats side by side, a property of every mesh that our calls produce, the renumbered one included" (W-208)
+pub renumbered-ascends : (m : Mesh) {q : List ℕ} → IsPermutation (count m) q → (i : ℕ) → i < count m → Nondecreasing (neighbours (renumberedMesh q m) i)
+renumbered-ascends m {q} h i lt = rw (neighbours-from m q i lt) (relabelled-nondecreasing h (neighbours m) i)
 
 module _ (m : Mesh) (facts : AdjacencyFacts m) {q : List ℕ} (h : IsPermutation (count m) q) where
   -- ---- lengths
@@ -51,10 +60,6 @@ module _ (m : Mesh) (facts : AdjacencyFacts m) {q : List ℕ} (h : IsPermutation
       let first = sym (ap (λ (j : ℕ). getD (movedBlocks 3 q (m .positions) nan) j nan) new) ∙ from 0 lt (omega arith) ∙ ap (λ (j : ℕ). getD (m .positions) j nan) old in
       rw (first, from 1 lt (omega arith), from 2 lt (omega arith)) refl
 
-  neighbours-from : (i : ℕ) → i < count m → neighbours (renumberedMesh q m) i ≡ relabelled q (neighbours m) i
-  unfolding neighbours renumberedMesh
-  neighbours-from i lt = concatenate-part (count m) (relabelled q (neighbours m)) i lt
-
   pub renumbered : Renumbered m (renumberedMesh q m) (at q) (at (inverse q))
   renumbered =
       let b = permutation-bijection h in
@@ -62,7 +67,7 @@ module _ (m : Mesh) (facts : AdjacencyFacts m) {q : List ℕ} (h : IsPermutation
         bijection = b;
         same-count = renumbered-count;
         positions = λ v lt. position-from (at q v) (b .maps v lt) ∙ ap (positionOf (m .positions)) (b .left-inverse v lt);
-        lists = λ v lt. neighbours-from (at q v) (b .maps v lt) ∙ relabelled-at h (neighbours m) v lt;
+        lists = λ v lt. ap sort (neighbours-from m q (at q v) (b .maps v lt) ∙ relabelled-at h (neighbours m) v lt) ∙ sort-again (map (at q) (neighbours m v));
       }
 
   -- ---- the mesh rows
@@ -90,31 +95,20 @@ module _ (m : Mesh) (facts : AdjacencyFacts m) {q : List ℕ} (h : IsPermutation
         ids-below = λ i lt. omega (arith, renumbered-id-below i lt);
       }
 
-pub renumbered-facts : (m : Mesh) → MeshFacts m → {q : List ℕ} → IsPermutation (count m) q → MeshFacts (renumberedMesh q m)
-renumbered-facts m facts {q} h =
-    let same = renumbered-count m (facts .adjacency) h in
-    record {
-      adjacency = renumbered-adjacency m (facts .adjacency) h;
-      admissible-positions = λ v lt.
-          let below : v < count m = omega arith in
-          ap admissible (position-from m (facts .adjacency) h v below) ∙ facts .admissible-positions (at (inverse q) v) (permutation-bijection h .inverse-maps v below);
-    }
+-- ---- by the identity
+module _ (m : Mesh) (facts : AdjacencyFacts m) where
+  pub identity-positions : renumberedMesh (identity (count m)) m .positions ≡ m .positions
+  unfolding renumberedMesh
+  identity-positions = moved-blocks-identity (count m) 3 (m .positions) nan (facts .three-each)
 
--- ---- renumbered by the identity, and again
-pub renumbered-mesh-identity : (m : Mesh) → AdjacencyFacts m → renumberedMesh (identity (count m)) m ≡ m
-unfolding renumberedMesh
-renumbered-mesh-identity m facts =
-    let lists = relabelled (identity (count m)) (neighbours m) in
-    let same = relabelled-identity (count m) (neighbours m) (λ v lv. neighbour-below m facts v) in
-    let positions = moved-blocks-identity (count m) 3 (m .positions) nan (facts .three-each) in
-    let starts = starts-extensional (count m) lists (neighbours m) (λ v lt. ap length (same v lt)) ∙ starts-of-neighbours m facts in
-    let entries = concatenate-extensional (count m) lists (neighbours m) same ∙ entries-of-neighbours m facts in
-    rw (positions, starts, entries) refl
+  pub identity-lists : (i : ℕ) → i < count m → neighbours (renumberedMesh (identity (count m)) m) i ≡ sort (neighbours m i)
+  identity-lists i lt = neighbours-from m (identity (count m)) i lt ∙ relabelled-identity (count m) (neighbours m) (λ v lv. neighbour-below m facts v) i lt
 
+-- ---- renumbered again
 module _ (m : Mesh) (facts : AdjacencyFacts m) {p q : List ℕ} (h : IsPermutation (count m) p) (k : IsPermutation (count m) q) where
   list-again : (i : ℕ) → i < count m → relabelled q (neighbours (renumberedMesh p m)) i ≡ relabelled (compose q p) (neighbours m) i
   list-again i lt =
-      relabelled-extensional q (neighbours (renumberedMesh p m)) (relabelled p (neighbours m)) i (neighbours-from m facts h (at (inverse q) i) (permutation-bijection k .inverse-maps i lt))
+      relabelled-extensional q (neighbours (renumberedMesh p m)) (relabelled p (neighbours m)) i (neighbours-from m p (at (inverse q) i) (permutation-bijection k .inverse-maps i lt))
       ∙ relabelled-compose h k (neighbours m) (λ v lv. neighbour-below m facts v) i lt
 
   positions-again : movedBlocks 3 q (renumberedMesh p m .positions) nan ≡ movedBlocks 3 (compose q p) (m .positions) nan
@@ -132,6 +126,6 @@ module _ (m : Mesh) (facts : AdjacencyFacts m) {p q : List ℕ} (h : IsPermutati
       ∙ concatenate-extensional (count m) (relabelled q (neighbours (renumberedMesh p m))) (relabelled (compose q p) (neighbours m)) list-again
 
   -- p, then q
-  pub renumbered-mesh-compose : renumberedMesh q (renumberedMesh p m) ≡ renumberedMesh (compose q p) m
+  pub renumbered-twice : renumberedMesh q (renumberedMesh p m) ≡ renumberedMesh (compose q p) m
   unfolding renumberedMesh
-  renumbered-mesh-compose = rw (positions-again, starts-again, entries-again) refl
+  renumbered-twice = rw (positions-again, starts-again, entries-again) refl

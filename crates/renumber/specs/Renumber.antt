@@ -1,7 +1,7 @@
--- Renumbering: "by any permutation, which holds the new id at each old one, moves positions, lists and data and maps the entries, keeping each list's order" (document 01). Definitions only.
+-- Renumbering: "by any permutation, which holds the new id at each old one, moves positions, lists and data and maps the entries" (document 01), and leaves each list ascending (W-208). Definitions only.
 use Prim.Native.Nat.{ℕ, _*_, max}
 use mathlib.Core.Path.{_≡_}
-use mathlib.Core.Bool.{Bool, _||_, cond}
+use mathlib.Core.Bool.{Bool, true, _||_, cond}
 use mathlib.Core.List.{List}
 use lib.Dec.{leb, eqb}
 use lib.ListN.{length, getD}
@@ -41,7 +41,7 @@ callRows n longest call =
     (row (entriesPerVertexFit n (call .entriesPerVertex)) (refusal 7)
     (row (scratchFits (max longest (length (call .permutation))) (call .scratchLengths)) (refusal 8) Passed))
 
--- Positions are blocks of three. The list of a new id is that of its old one, in its order, each entry taken through the permutation.
+-- Positions are blocks of three. The list of a new id is that of its old one, each entry taken through the permutation, ascending.
 unfoldable pub renumberedMesh : List ℕ → Mesh → Mesh
 renumberedMesh permutation m = record {
   positions = movedBlocks 3 permutation (m .positions) nan;
@@ -57,22 +57,25 @@ renumberedSlab permutation each slab = cond (eqb each 1) (moved permutation slab
 unfoldable pub renumberedData : ℕ → List ℕ → ℕ → List Float → List Float
 renumberedData n permutation each values = mapSlabs (n * each) (renumberedSlab permutation each) values nan
 
--- The whole outcome of a call: its answer, and mesh and data at exit. Scratch is free after an accepted call, and as it was after a refused one.
+-- The whole outcome of a call: its answer, and mesh, mark and data at exit. Scratch is free after an accepted call, and as it was after a refused one.
 pub record RenumberOutcome : Type 0 where
   pub verdict : Verdict
   pub mesh : Mesh
+  pub mark : Bool
   pub values : List Float
 
 -- The mesh rows 2 to 4, then 6, 7, 8.
 unfoldable pub renumberRows : Mesh → List Float → Call → Verdict
 renumberRows m values call = then (adjacencyRows m) (callRows (count m) (longestLength m values) call)
 
-unfoldable pub renumber : Mesh → List Float → Call → RenumberOutcome
-renumber m values call =
-    answer (renumberRows m values call) (λ reason. record { verdict = Refused reason; mesh = m; values = values })
+-- "a lattice and an accepted renumbering set it" (W-208), the mark that the lists ascend; a refused call leaves it, as it leaves mesh and data.
+unfoldable pub renumber : Mesh → Bool → List Float → Call → RenumberOutcome
+renumber m mark values call =
+    answer (renumberRows m values call) (λ reason. record { verdict = Refused reason; mesh = m; mark = mark; values = values })
     (record {
       verdict = Passed;
       mesh = renumberedMesh (call .permutation) m;
+      mark = true;
       values = renumberedData (count m) (call .permutation) (call .entriesPerVertex) values;
     })
 
@@ -80,9 +83,9 @@ renumber m values call =
 abbrev pub callOf : List ℕ → ℕ → List ℕ → Call
 callOf permutation each scratchLengths = record { permutation = permutation; entriesPerVertex = each; scratchLengths = scratchLengths }
 
--- An answer, with mesh and data at exit, as an outcome.
-abbrev pub outcomeOf : Verdict → Mesh → List Float → RenumberOutcome
-outcomeOf verdict mesh values = record { verdict = verdict; mesh = mesh; values = values }
+-- An answer, with mesh, mark and data at exit, as an outcome.
+abbrev pub outcomeOf : Verdict → Mesh → Bool → List Float → RenumberOutcome
+outcomeOf verdict mesh mark values = record { verdict = verdict; mesh = mesh; mark = mark; values = values }
 
 -- What the five scratch slices hold.
 pub record Scratch : Type 0 where

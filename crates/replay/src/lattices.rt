@@ -1,11 +1,33 @@
 // Lattices, with their walks or their grids.
+use crate::marks;
+use crate::marks::Mark;
 use crate::meshes;
 use crate::places::F64_BEFORE;
 use crate::places::U16_BEFORE;
 use crate::places::U32_BEFORE;
 use records::Cursor;
 
-// The refusal, and the slices after the call; then the walk or the grid of what stands in them.
+// The mark before the call. With a grid it is not recorded, and is false.
+fn take_mark(text: &[u8], cursor: Cursor, with_grid: bool) -> Mark {
+    if with_grid {
+        return Mark {
+            lists_ascend: false,
+            at: cursor.at,
+            good: cursor.good,
+        };
+    }
+    marks::take(text, cursor)
+}
+
+// The mark after it, where it is recorded.
+fn expect_mark(text: &[u8], cursor: Cursor, with_grid: bool, lists_ascend: bool) -> Cursor {
+    if with_grid {
+        return cursor;
+    }
+    marks::expect(text, cursor, lists_ascend)
+}
+
+// The refusal, the mark and the slices after the call; then the walk or the grid of what stands in them.
 fn expect_lattice(
     text: &[u8],
     cursor: Cursor,
@@ -15,10 +37,12 @@ fn expect_lattice(
     positions: &[f64],
     starts: &[u32],
     entries: &[u16],
+    lists_ascend: bool,
     ids: &[u16],
 ) -> Cursor {
     let answered = records::expect_u32(text, cursor, refusal);
-    let behind_positions = records::expect_f64s(text, answered, positions, hashed);
+    let marked = expect_mark(text, answered, with_grid, lists_ascend);
+    let behind_positions = records::expect_f64s(text, marked, positions, hashed);
     let behind_starts = records::expect_u32s(text, behind_positions, starts, hashed);
     let behind_entries = records::expect_u16s(text, behind_starts, entries, hashed);
     let behind_ids = records::expect_u16s(text, behind_entries, ids, hashed);
@@ -39,16 +63,26 @@ fn replay_lattice(
     entries: &mut [u16],
     ids: &mut [u16],
 ) -> Cursor {
-    let refusal = c_api::koshirga_lattice(frequency, positions, starts, entries, ids);
+    let before = take_mark(text, cursor, with_grid);
+    let mut lists_ascend = before.lists_ascend;
+    let refusal = c_api::koshirga_lattice(
+        frequency,
+        positions,
+        starts,
+        entries,
+        &mut lists_ascend,
+        ids,
+    );
     expect_lattice(
         text,
-        cursor,
+        before.cursor(),
         hashed,
         with_grid,
         refusal,
         positions,
         starts,
         entries,
+        lists_ascend,
         ids,
     )
 }

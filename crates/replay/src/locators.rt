@@ -183,7 +183,7 @@ fn with_grid(
     )
 }
 
-// Then the lattice's refusal.
+// Then the lattice's refusal. The mark is lent and not recorded.
 fn on_lattice(
     text: &[u8],
     cursor: Cursor,
@@ -193,7 +193,15 @@ fn on_lattice(
     entries: &mut [u16],
     ids: &mut [u16],
 ) -> Tally {
-    let refusal = c_api::koshirga_lattice(frequency, positions, starts, entries, ids);
+    let mut lists_ascend = false;
+    let refusal = c_api::koshirga_lattice(
+        frequency,
+        positions,
+        starts,
+        entries,
+        &mut lists_ascend,
+        ids,
+    );
     let answered = records::expect_u32(text, cursor, refusal);
     with_grid(text, answered, frequency, ids, positions, starts, entries)
 }

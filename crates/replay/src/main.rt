@@ -3,6 +3,7 @@
 mod arithmetic;
 mod lattices;
 mod locators;
+mod marks;
 mod meshes;
 mod places;
 mod queries;

@@ -1,4 +1,5 @@
-// Any meshes, also such as some row refuses: walk and grid.
+// Any meshes, also such as some row refuses: the call that reads whether the lists ascend, walk and grid.
+use crate::marks;
 use crate::places::F64_BEFORE;
 use crate::places::FACTOR;
 use crate::places::MARGIN;
@@ -197,8 +198,27 @@ pub fn grid(
     )
 }
 
-// The slices of a mesh; then its walk, and its grid.
-fn replay_mesh(
+// The mark before the call that reads whether the lists ascend; its answer, and the mark after it.
+fn reading(
+    text: &[u8],
+    cursor: Cursor,
+    positions: &[f64],
+    starts: &[u32],
+    entries: &[u16],
+) -> Cursor {
+    let before = marks::take(text, cursor);
+    let mut lists_ascend = before.lists_ascend;
+    let answer = c_api::koshirga_mark_ascending(positions, starts, entries, &mut lists_ascend);
+    marks::expect_answer(
+        text,
+        before.cursor(),
+        answer.refusal,
+        answer.index,
+        lists_ascend,
+    )
+}
+
+fn read_slices(
     text: &[u8],
     cursor: Cursor,
     positions: &mut [f64],
@@ -207,8 +227,20 @@ fn replay_mesh(
 ) -> Cursor {
     let behind_positions = records::read_f64s(text, cursor, positions);
     let behind_starts = records::read_u32s(text, behind_positions, starts);
-    let behind_entries = records::read_u16s(text, behind_starts, entries);
-    let behind_walk = walk(text, behind_entries, false, positions, starts, entries);
+    records::read_u16s(text, behind_starts, entries)
+}
+
+// The slices of a mesh; then the reading of its lists, its walk, and its grid.
+fn replay_mesh(
+    text: &[u8],
+    cursor: Cursor,
+    positions: &mut [f64],
+    starts: &mut [u32],
+    entries: &mut [u16],
+) -> Cursor {
+    let behind_slices = read_slices(text, cursor, positions, starts, entries);
+    let behind_reading = reading(text, behind_slices, positions, starts, entries);
+    let behind_walk = walk(text, behind_reading, false, positions, starts, entries);
     grid(text, behind_walk, false, positions, starts, entries)
 }
 

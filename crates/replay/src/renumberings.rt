@@ -1,4 +1,5 @@
 // Calls of the renumbering, also such as some row refuses.
+use crate::marks;
 use crate::places::F64_BEFORE;
 use crate::places::U8_BEFORE;
 use crate::places::U16_BEFORE;
@@ -24,7 +25,24 @@ fn scratch_fits(
         & records::all_f64s(held, F64_BEFORE)
 }
 
-// The refusal and the index.
+// The answer, the mark after the call, and what a refused one leaves of the scratch.
+fn expect_left(
+    text: &[u8],
+    cursor: Cursor,
+    refusal: u32,
+    index: usize,
+    lists_ascend: bool,
+    sources: &[u32],
+    old_starts: &[u32],
+    old_entries: &[u16],
+    done: &[u8],
+    held: &[f64],
+) -> Cursor {
+    let fits = scratch_fits(refusal, sources, old_starts, old_entries, done, held);
+    marks::expect_answer(text, cursor, refusal, index, lists_ascend).only_if(fits)
+}
+
+// The mark before the call; then the call.
 fn call(
     text: &[u8],
     cursor: Cursor,
@@ -40,10 +58,13 @@ fn call(
     done: &mut [u8],
     held: &mut [f64],
 ) -> Cursor {
+    let before = marks::take(text, cursor);
+    let mut lists_ascend = before.lists_ascend;
     let answer = c_api::koshirga_renumber(
         positions,
         starts,
         entries,
+        &mut lists_ascend,
         values,
         permutation,
         each,
@@ -53,9 +74,18 @@ fn call(
         done,
         held,
     );
-    let fits = scratch_fits(answer.refusal, sources, old_starts, old_entries, done, held);
-    let answered = records::expect_u32(text, cursor, answer.refusal);
-    records::expect(text, answered, answer.index as u64).only_if(fits)
+    expect_left(
+        text,
+        before.cursor(),
+        answer.refusal,
+        answer.index,
+        lists_ascend,
+        sources,
+        old_starts,
+        old_entries,
+        done,
+        held,
+    )
 }
 
 // The entries a vertex, and the lengths of the scratch slices.

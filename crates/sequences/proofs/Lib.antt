@@ -11,3 +11,4 @@ pub mod Appearance
 pub mod Slabs
 pub mod Cases
 pub mod Relations
+pub mod Sorted

@@ -2,7 +2,7 @@
 -- The test: `is-permutation-sound`, `is-permutation-complete`; its loop: `marks-none`, `marks-step`, `marks-all`, and `refused-length`, `refused-range`, `refused-repeat`.
 -- A permutation as a function with its inverse: `permutation-bijection`; composed, turned round: `bijection-compose`, `bijection-flip`.
 -- The inverse: `inverse-unique`; its loop: `inverting-none`, `inverting-step`, `inverting-all`.
--- Lists of ids renumbered: `relabelled-at`, `relabelled-total`, `relabelled-compose`; for the loop that rewrites starts and entries `relabelled-rows-next`, `relabelled-rows-entry`, `relabelled-rows-total`.
+-- Lists of ids renumbered: `relabelled-at`, `relabelled-nondecreasing`, `relabelled-total`, `relabelled-compose`; for the loop that rewrites starts and entries `relabelled-rows-next`, `relabelled-rows-total`.
 -- A moved list: read by `moved-blocks-at` (and `moved-at`), recognised by `moved-blocks-unique` (and `moved-unique`), repeated by `moved-blocks-compose`.
 use Prim.Native.Nat.{ℕ, zero, suc, _+_, _-_, _*_, _≤_, _<_}
 use native.Mathlib.Nat.{not-suc-le-zero}
@@ -18,11 +18,14 @@ use lib.Seq.{ext-getD, getD-set-same, getD-set-other}
 use borrow.Author.Tests.{ltb-true, eqb-true, eqb-false, not-true, eq-eqb, ne-eqb, lt-ltb, le-ltb}
 use Rattle.sequences.specs.Range.{allBelow, sumBelow, Updated}
 use Rattle.sequences.specs.Tabulate.{block, overwrite}
-use Rattle.sequences.specs.Starts.{startOf, concatenate, part, CompressedRows}
+use Rattle.sequences.specs.Starts.{startOf, part, CompressedRows}
+use Rattle.sequences.specs.Ascending.{Nondecreasing, sort}
 use Rattle.sequences.specs.Permutation.{at, Bijection, IsPermutation, isFresh, isPermutation, Marks, placeOf, inverse, Inverting, identity, compose, movedBlocks, moved, movedPairs, relabelled}
 use Rattle.sequences.proofs.Range.{and-split, and-intro, and-right-fails, last-or-below, all-below-at, all-below-intro, all-below-suc, all-below-fails, sum-extensional, sum-injection, pigeonhole}
 use Rattle.sequences.proofs.Tabulate.{length-tabulate, tabulate-at, length-block, block-at, block-unique, getD-map, length-overwrite, overwrite-at, overwrite-beyond}
-use Rattle.sequences.proofs.Starts.{concatenate-even-length, concatenate-even-at, concatenate-even-unique, concatenate-at, start-extensional, start-suc, part-length, part-at, part-start}
+use Rattle.sequences.proofs.Starts.{concatenate-even-length, concatenate-even-at, concatenate-even-unique, start-extensional, start-suc, part-length, part-start}
+use Rattle.sequences.proofs.Ascending.{sort-members, length-sort, sort-nondecreasing}
+use Rattle.sequences.proofs.Sorted.{sort-map-sort}
 
 -- ---- bijections of the numbers below n
 pub bijection-identity : (n : ℕ) → Bijection n (λ v. v) (λ v. v)
@@ -402,18 +405,18 @@ map-extensional f g (x ∷ xs) h = rw (h x (List·Memᴰ·head refl), map-extens
 
 module _ {n : ℕ} {q : List ℕ} (h : IsPermutation n q) (lists : ℕ → List ℕ) where
   -- the list of p(v)
-  pub relabelled-at : (v : ℕ) → v < n → relabelled q lists (at q v) ≡ map (at q) (lists v)
+  pub relabelled-at : (v : ℕ) → v < n → relabelled q lists (at q v) ≡ sort (map (at q) (lists v))
   unfolding relabelled
-  relabelled-at v lt = ap (λ (u : ℕ). map (at q) (lists u)) (permutation-bijection h .left-inverse v lt)
+  relabelled-at v lt = ap (λ (u : ℕ). sort (map (at q) (lists u))) (permutation-bijection h .left-inverse v lt)
 
   pub length-relabelled : (i : ℕ) → length (relabelled q lists i) ≡ length (lists (at (inverse q) i))
   unfolding relabelled
-  length-relabelled i = length-map (lists (at (inverse q) i)) (at q)
+  length-relabelled i = length-sort (map (at q) (lists (at (inverse q) i))) ∙ length-map (lists (at (inverse q) i)) (at q)
 
-  -- entry t of the list at i
-  pub relabelled-entry : (i t : ℕ) → t < length (lists (at (inverse q) i)) → at (relabelled q lists i) t ≡ at q (at (lists (at (inverse q) i)) t)
+  -- "ascending order, repeats side by side"
+  pub relabelled-nondecreasing : (i : ℕ) → Nondecreasing (relabelled q lists i)
   unfolding relabelled
-  relabelled-entry i t lt = getD-map (at q) (lists (at (inverse q) i)) t 0 0 lt
+  relabelled-nondecreasing i = sort-nondecreasing (map (at q) (lists (at (inverse q) i)))
 
   -- as many entries in all
   pub relabelled-total : startOf (relabelled q lists) n ≡ startOf lists n
@@ -424,14 +427,15 @@ module _ {n : ℕ} {q : List ℕ} (h : IsPermutation n q) (lists : ℕ → List 
   pub relabelled-below : ((v : ℕ) → v < n → (x : ℕ) → List·Memᴰ x (lists v) → x < n) → (i : ℕ) → i < n → (y : ℕ) → List·Memᴰ y (relabelled q lists i) → y < n
   unfolding relabelled
   relabelled-below below i lt y m =
-      let r = Memᴰ·of-map (at q) (lists (at (inverse q) i)) m in
+      let r = Memᴰ·of-map (at q) (lists (at (inverse q) i)) (sort-members (map (at q) (lists (at (inverse q) i))) .forth y m) in
       let k = h .below (r .0) (below (at (inverse q) i) (permutation-bijection h .inverse-maps i lt) (r .0) (r .1)) in
       omega arith
 
-pub relabelled-identity : (n : ℕ) (lists : ℕ → List ℕ) → ((v : ℕ) → v < n → (x : ℕ) → List·Memᴰ x (lists v) → x < n) → (i : ℕ) → i < n → relabelled (identity n) lists i ≡ lists i
+-- by the identity each list stays where it was, and is sorted
+pub relabelled-identity : (n : ℕ) (lists : ℕ → List ℕ) → ((v : ℕ) → v < n → (x : ℕ) → List·Memᴰ x (lists v) → x < n) → (i : ℕ) → i < n → relabelled (identity n) lists i ≡ sort (lists i)
 relabelled-identity n lists below i lt =
     ap (relabelled (identity n) lists) (sym (identity-at n i lt)) ∙ relabelled-at (identity-permutation n) lists i lt
-    ∙ map-extensional (at (identity n)) (λ v. v) (lists i) (λ x m. identity-at n x (below i lt x m)) ∙ map-id (lists i)
+    ∙ ap sort (map-extensional (at (identity n)) (λ v. v) (lists i) (λ x m. identity-at n x (below i lt x m)) ∙ map-id (lists i))
 
 -- one renumbering after another is the one by the composition
 pub relabelled-compose : {n : ℕ} {p q : List ℕ} → IsPermutation n p → IsPermutation n q → (lists : ℕ → List ℕ) → ((v : ℕ) → v < n → (x : ℕ) → List·Memᴰ x (lists v) → x < n)
@@ -441,9 +445,10 @@ relabelled-compose {n} {p} {q} h k lists below i lt =
     let v : ℕ = at (inverse (compose q p)) i in
     let lv = permutation-bijection c .inverse-maps i lt in
     let e : at q (at p v) ≡ i = sym (compose-at q p v (omega (arith, h .size))) ∙ permutation-bijection c .right-inverse i lt in
-    ap (relabelled q (relabelled p lists)) (sym e) ∙ relabelled-at k (relabelled p lists) (at p v) (h .below v lv) ∙ ap (map (at q)) (relabelled-at h lists v lv)
-    ∙ map-map (at q) (at p) (lists v)
-    ∙ map-extensional (λ x. at q (at p x)) (at (compose q p)) (lists v) (λ x m. sym (compose-at q p x (let b = below v lv x m in omega (arith, h .size))))
+    ap (relabelled q (relabelled p lists)) (sym e) ∙ relabelled-at k (relabelled p lists) (at p v) (h .below v lv) ∙ ap (λ (l : List ℕ). sort (map (at q) l)) (relabelled-at h lists v lv)
+    ∙ sort-map-sort (at q) (map (at p) (lists v))
+    ∙ ap sort (map-map (at q) (at p) (lists v)
+    ∙ map-extensional (λ x. at q (at p x)) (at (compose q p)) (lists v) (λ x m. sym (compose-at q p x (let b = below v lv x m in omega (arith, h .size)))))
     ∙ sym (relabelled-at c lists v lv) ∙ ap (relabelled (compose q p) lists) (permutation-bijection c .right-inverse i lt)
 
 -- ---- the same, read from starts and entries: what a loop that rewrites them stores
@@ -454,15 +459,6 @@ module _ {n : ℕ} {q : List ℕ} (h : IsPermutation n q) {S E : List ℕ} (rows
       start-suc (relabelled q (part S E)) i
       ∙ ap (λ (k : ℕ). startOf (relabelled q (part S E)) i + k) (length-relabelled h (part S E) i ∙ part-length n S E rows (at (inverse q) i) (permutation-bijection h .inverse-maps i lt))
 
-  -- its entry t is the old list's, renumbered
-  pub relabelled-rows-entry : (t : ℕ) → at S (at (inverse q) i) + t < at S (suc (at (inverse q) i))
-      → at (concatenate n (relabelled q (part S E))) (startOf (relabelled q (part S E)) i + t) ≡ at q (at E (at S (at (inverse q) i) + t))
-  relabelled-rows-entry t ends =
-      let o : ℕ = at (inverse q) i in
-      let l = part-length n S E rows o (permutation-bijection h .inverse-maps i lt) in
-      let r = length-relabelled h (part S E) i in
-      concatenate-at n (relabelled q (part S E)) i t 0 lt (omega arith) ∙ relabelled-entry h (part S E) i t (omega arith) ∙ ap (at q) (part-at n S E rows o t 0 ends)
-
 -- the entries are as many as they were: they can be rewritten in place
 pub relabelled-rows-total : {n : ℕ} {q S E : List ℕ} → IsPermutation n q → CompressedRows n S E → startOf (relabelled q (part S E)) n ≡ length E
 relabelled-rows-total {n} {q} {S} {E} h rows = relabelled-total h (part S E) ∙ part-start n S E rows n (omega arith) ∙ rows .last
@@ -470,4 +466,4 @@ relabelled-rows-total {n} {q} {S} {E} h rows = relabelled-total h (part S E) ∙
 -- the list at the new id i comes from one old list
 pub relabelled-extensional : (q : List ℕ) (lists lists′ : ℕ → List ℕ) (i : ℕ) → lists (at (inverse q) i) ≡ lists′ (at (inverse q) i) → relabelled q lists i ≡ relabelled q lists′ i
 unfolding relabelled
-relabelled-extensional q lists lists′ i e = ap (map (at q)) e
+relabelled-extensional q lists lists′ i e = ap (λ (l : List ℕ). sort (map (at q) l)) e

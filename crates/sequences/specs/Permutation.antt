@@ -10,6 +10,7 @@ use lib.ListN.{length, getD}
 use Rattle.sequences.specs.Range.{allBelow}
 use Rattle.sequences.specs.Tabulate.{tabulate, block}
 use Rattle.sequences.specs.Starts.{concatenate}
+use Rattle.sequences.specs.Ascending.{sort}
 
 -- the number at the place v
 abbrev pub at : List ℕ → ℕ → ℕ
@@ -82,6 +83,6 @@ module _ {A : Type 0} where
   movedPairs q l d = concatenate (length q) (λ i. moved q (block (length q) l d (at (inverse q) i)) d)
 
 -- ---- lists of ids renumbered
--- the list at the new id i: the list that was at the old one, "with each entry taken through p, in its order"
+-- the list at the new id i: the list that was at the old one, with each entry taken through p, in "ascending order, repeats side by side" (W-208)
 unfoldable pub relabelled : List ℕ → (ℕ → List ℕ) → ℕ → List ℕ
-relabelled q lists i = map (at q) (lists (at (inverse q) i))
+relabelled q lists i = sort (map (at q) (lists (at (inverse q) i)))

@@ -105,6 +105,7 @@ fn builders(frequency: usize) {
     let flat = lists.flat();
     let count = flat.count();
     let mut mesh = flat.clone();
+    let mut lists_ascend = false;
     let mut ids = vec![0; 10 * (frequency + 1) * (frequency + 2)];
     let mut cell_starts = vec![0; 6 * 126 * 126 + 1];
     let mut cell_ids = vec![0; 27 * count];
@@ -117,6 +118,7 @@ fn builders(frequency: usize) {
                 positions: &mut mesh.positions,
                 starts: &mut mesh.starts,
                 entries: &mut mesh.entries,
+                lists_ascend: &mut lists_ascend,
             };
             koshirga::lattice_geometry(frequency as u32, mesh, &mut ids)
         }));
@@ -171,13 +173,15 @@ fn grid_at_the_ends(frequency: usize) {
 }
 
 /// The walk, and the renumbering by its order with one value a vertex. The Rust's slices and
-/// scratch are its own, allocated in the call.
+/// scratch are its own, allocated in the call. Its renumbering keeps the order of a list, where the
+/// engine's sorts each (W-208); so the engine's time stands once beside the Rust's own, and once
+/// beside the Rust's with a sort of each list behind it.
 fn meshes(frequency: usize) {
     let lists = Lattice::new(frequency).lists;
     let flat = lists.flat();
     let count = flat.count();
     let (mut order, mut queue) = (vec![0; count], vec![0; count]);
-    let mut times = [const { Vec::new() }; 4];
+    let mut times = [const { Vec::new() }; 5];
     for _ in 0..MESH_ROUNDS {
         times[0].push(once(|| {
             koshirga::bfs_vertex_permutation(flat.as_mesh(), &mut order, &mut queue)
@@ -187,11 +191,14 @@ fn meshes(frequency: usize) {
             permutation = rust::bfs_vertex_permutation(&lists.neighbors)
         }));
         times[2].push(renumbering(&flat, &order));
-        times[3].push(rust_renumbering(&lists, &permutation));
+        times[3].push(rust_renumbering(&lists, &permutation, false));
+        times[4].push(rust_renumbering(&lists, &permutation, true));
     }
-    let [walk, rust_walk, renumber, rust_renumber] = times.map(median);
+    let [walk, rust_walk, renumber, rust_renumber, rust_sorted] = times.map(median);
     print_times(&format!("walk {frequency}"), walk, rust_walk);
     print_times(&format!("renumber {frequency}"), renumber, rust_renumber);
+    let name = format!("renumber {frequency}, Rust + sort");
+    print_times(&name, renumber, rust_sorted);
 }
 
 fn renumbering(flat: &Flat, permutation: &[u32]) -> f64 {
@@ -205,15 +212,17 @@ fn renumbering(flat: &Flat, permutation: &[u32]) -> f64 {
         done: &mut vec![0; room],
         held: &mut vec![0.0; room],
     };
+    let mut lists_ascend = false;
     let mesh = MeshMut {
         positions: &mut mesh.positions,
         starts: &mut mesh.starts,
         entries: &mut mesh.entries,
+        lists_ascend: &mut lists_ascend,
     };
     once(|| koshirga::apply_vertex_permutation(mesh, &mut values, permutation, 1, scratch))
 }
 
-fn rust_renumbering(lists: &Lists, permutation: &[usize]) -> f64 {
+fn rust_renumbering(lists: &Lists, permutation: &[usize], sorts: bool) -> f64 {
     let mut lists = lists.clone();
     let count = lists.vertices.len();
     let mut values = vec![1.0; count];
@@ -225,7 +234,11 @@ fn rust_renumbering(lists: &Lists, permutation: &[usize]) -> f64 {
             &mut values,
             count,
             1,
-        )
+        );
+        if sorts {
+            lists.sort();
+        }
+        black_box(&lists);
     })
 }
 

@@ -1,5 +1,6 @@
 //! What a check is, and how the checks are run and counted.
 
+use crate::meshes::has_repeats;
 use crate::rows::Reason;
 use std::collections::BTreeMap;
 use std::fmt;
@@ -29,6 +30,7 @@ impl Topic {
             topic: self.name,
             checks: 0,
             judged: Judged::default(),
+            left: Left::default(),
             differences: 0,
             time: Duration::ZERO,
         }
@@ -42,8 +44,8 @@ pub enum Judge {
     /// What the Rust returned, or a table of its own.
     Rust,
     /// What the Rust doesn't return, worked out beside it: from its grid, order or conversions, or
-    /// by the text of document 01, of W-207 and of W-210, whose other pairs of factor and margin
-    /// the Rust has not.
+    /// by the text of document 01, of W-207, of W-208, whose mark the Rust has not, and of W-210,
+    /// whose other pairs of factor and margin it has not.
     Beside,
     /// The text of the rows: refusals, and answers on damaged grids.
     Rows,
@@ -55,6 +57,24 @@ pub enum Judge {
 
 /// How many comparisons each judge has had, in the order of [`Judge`].
 type Judged = [u64; 5];
+
+/// Neighbour lists that the Rust's renumberings left, counted before each was sorted (W-208): all of
+/// them, those out of order, and those that had a repeat besides.
+#[derive(Clone, Copy, Default)]
+pub struct Left {
+    pub lists: u64,
+    pub out_of_order: u64,
+    pub with_repeats: u64,
+}
+
+impl Left {
+    pub fn count(&mut self, list: &[u16]) {
+        let out_of_order = !list.is_sorted();
+        self.lists += 1;
+        self.out_of_order += u64::from(out_of_order);
+        self.with_repeats += u64::from(out_of_order && has_repeats(list));
+    }
+}
 
 /// One function's comparison, on one class of inputs where there are several.
 pub struct Check {
@@ -74,6 +94,8 @@ impl Check {
 #[derive(Default)]
 pub struct Tally {
     judged: Judged,
+    /// Counted by the function that sorts the Rust's lists.
+    pub left: Left,
     differences: u64,
     described: Vec<String>,
     reached: Vec<(String, u64)>,
@@ -103,6 +125,22 @@ impl Tally {
             format!("no input reaches {case}")
         });
         self.reached.push((case, count));
+    }
+
+    /// Where the Rust's lists are sorted some have to be out of order: else the sort shows nothing.
+    fn left_reached(&mut self) {
+        let Left {
+            lists,
+            out_of_order,
+            ..
+        } = self.left;
+        if lists > 0 {
+            self.reached("lists that the Rust's renumberings left".to_string(), lists);
+            self.reached(
+                "of them out of order, then sorted".to_string(),
+                out_of_order,
+            );
+        }
     }
 }
 
@@ -158,6 +196,7 @@ pub struct Sum {
     topic: &'static str,
     checks: u64,
     judged: Judged,
+    left: Left,
     pub differences: u64,
     time: Duration,
 }
@@ -168,26 +207,30 @@ impl Sum {
         for (sum, more) in self.judged.iter_mut().zip(tally.judged) {
             *sum += more;
         }
+        self.left.lists += tally.left.lists;
+        self.left.out_of_order += tally.left.out_of_order;
         self.differences += tally.differences;
         self.time += time;
     }
 }
 
-/// The line of a summary: topic, checks, comparisons, differences, seconds, and the comparisons by
-/// their judge.
+/// The line of a summary: topic, checks, comparisons, differences, seconds, the comparisons by their
+/// judge, the lists that the Rust's renumberings left, and those of them that were out of order.
 impl fmt::Display for Sum {
     fn fmt(&self, f: &mut fmt::Formatter) -> fmt::Result {
         let Sum {
             topic,
             checks,
             judged,
+            left,
             differences,
             time,
         } = self;
         let count: u64 = judged.iter().sum();
         let seconds = time.as_secs_f64();
         write!(f, "{topic}\t{checks}\t{count}\t{differences}\t{seconds:.2}")?;
-        judged.iter().try_for_each(|sum| write!(f, "\t{sum}"))
+        judged.iter().try_for_each(|sum| write!(f, "\t{sum}"))?;
+        write!(f, "\t{}\t{}", left.lists, left.out_of_order)
     }
 }
 
@@ -206,6 +249,7 @@ pub fn run(topics: &[&Topic]) -> Vec<Sum> {
             let start = Instant::now();
             let mut tally = Tally::default();
             (check.run)(&mut tally);
+            tally.left_reached();
             if tally.count() == 0 {
                 tally.compare(Judge::Inputs, false, || "nothing was compared".to_string());
             }

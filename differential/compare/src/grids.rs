@@ -1,16 +1,16 @@
-//! The grids of all 80 lattices and of random meshes beside the Rust's at the usual pair, and at
-//! other pairs beside a second reading; the count of conversions held beside a loop over the
-//! numbers that the Rust converts; the builder's refusals beside the rows' text.
+//! The grids of all 80 lattices and of random meshes, also renumbered, beside the Rust's at the usual
+//! pair, and at other pairs beside a second reading; the count of conversions held beside a loop over
+//! the numbers that the Rust converts; the builder's refusals beside the rows' text.
 
 use crate::check::{Check, Judge, Kinds, Rows, Tally};
 use crate::directions::row_9;
 use crate::helpers::is_held;
-use crate::meshes::{Flat, Lattice, Lists, FREQUENCIES};
+use crate::meshes::{permutation, Flat, Lattice, Lists, FREQUENCIES};
 use crate::pairs::{self, kinds_of_pair, pair, settings_row, USUAL};
 use crate::patterns::{Random, BIAS, SIGNIFICAND_DIGITS};
 use crate::queries::Slices;
+use crate::renumber::{self, drawn, Renumbered};
 use crate::rows::{adjacency_row, by_hand, damage, kinds_of_starts, Reason};
-use crate::walk::lists_of;
 use icotable_oracle as rust;
 use koshirga::{Built, GridMut, Settings, Vector3};
 
@@ -32,6 +32,8 @@ pub fn checks() -> Vec<Check> {
     vec![
         Check::new("80 lattices", lattices),
         Check::new("random meshes", random_meshes),
+        Check::new("80 lattices, renumbered", renumbered_lattices),
+        Check::new("random meshes, renumbered", renumbered_meshes),
         Check::new("80 lattices, other pairs", lattices_at_pairs),
         Check::new("random meshes, other pairs", random_meshes_at_pairs),
         Check::new("meshes about an axis", meshes_about_an_axis),
@@ -225,11 +227,23 @@ fn compare_held(
     });
 }
 
-/// At the usual pair. What is worked out beside the Rust's grid has to be that grid there.
+/// At the usual pair.
 fn compare_with_rust(tally: &mut Tally, lists: &Lists, surplus: [usize; 4], name: &str) -> Slices {
+    compare_grids(tally, &lists.flat(), lists, surplus, name)
+}
+
+/// The engine's grid of its mesh, and the Rust's of its own, at the usual pair. What is worked out
+/// beside the Rust's grid has to be that grid there.
+fn compare_grids(
+    tally: &mut Tally,
+    mesh: &Flat,
+    lists: &Lists,
+    surplus: [usize; 4],
+    name: &str,
+) -> Slices {
     let grid = rust_grid(lists);
     let beside = grid_beside(&grid, USUAL) == grid;
-    let (answer, same) = outcome(&lists.flat(), &grid, surplus);
+    let (answer, same) = outcome(mesh, &grid, surplus);
     tally.compare(Judge::Rust, same && beside, || {
         let side = grid.side;
         format!("grid of {name}: {answer:?}, Rust's side {side}, the same beside it: {beside}")
@@ -311,6 +325,76 @@ fn random_meshes(tally: &mut Tally) {
             compare_with_rust(tally, &lists, surplus, &format!("{:?}", lists.neighbors));
         }
     }
+}
+
+/// A mesh renumbered on both sides, and then the grids. Whether the triples of the Rust's grid had
+/// another order before its lists were sorted.
+fn renumbered(
+    tally: &mut Tally,
+    random: &mut Random,
+    lists: &Lists,
+    by: &[usize],
+    name: &str,
+) -> bool {
+    let start = drawn(random, lists);
+    let (ours, Renumbered { state, unsorted }) = renumber::compare(tally, &start, by, 1, name);
+    let grid = compare_grids(tally, &ours.mesh, &state.mesh.lists(), [0; 4], name);
+    grid.triples != rust_grid(&unsorted).triples
+}
+
+/// Each by its walk and at random.
+fn renumbered_lattices(tally: &mut Tally) {
+    let mut random = Random::new(88);
+    let mut kinds = Kinds::default();
+    for frequency in FREQUENCIES {
+        let lists = Lattice::new(frequency).lists;
+        let walk = rust::bfs_vertex_permutation(&lists.neighbors);
+        let name = format!("the lattice of frequency {frequency}, by its walk");
+        let walk_differs = renumbered(tally, &mut random, &lists, &walk, &name);
+        let other = permutation(&mut random, lists.vertices.len());
+        let name = format!("the lattice of frequency {frequency}, renumbered at random");
+        let other_differs = renumbered(tally, &mut random, &lists, &other, &name);
+        kinds.count(&[
+            ("by the walk: other triples before the sort", walk_differs),
+            ("at random: other triples before the sort", other_differs),
+        ]);
+    }
+    kinds.all_reached(tally);
+}
+
+/// At random, and one of four by the identity.
+fn renumbered_meshes(tally: &mut Tally) {
+    let mut random = Random::new(89);
+    let mut kinds = Kinds::default();
+    for at in 0..MESHES {
+        let lists = Lists::random(&mut random);
+        if row_5(&lists.flat()) {
+            continue;
+        }
+        let count = lists.vertices.len();
+        let identity = random.below(4) == 0;
+        let by = if identity {
+            (0..count).collect()
+        } else {
+            permutation(&mut random, count)
+        };
+        let name = format!("mesh {at}, renumbered by {by:?}");
+        let differs = renumbered(tally, &mut random, &lists, &by, &name);
+        kinds.count(&[
+            (
+                "the identity: other triples before the sort",
+                identity && differs,
+            ),
+            (
+                "at random: other triples before the sort",
+                !identity && differs,
+            ),
+            ("the same triples before the sort", !differs),
+        ]);
+    }
+    kinds.all_reached(tally);
+    let repeats = tally.left.with_repeats;
+    tally.reached("a list out of order, with a repeat".to_string(), repeats);
 }
 
 /// Components that put a vertex on an axis or a diagonal, or almost edge-on to a cube face.
@@ -696,16 +780,7 @@ fn refusals(tally: &mut Tally) {
             _ => pairs::refused(&mut random),
         };
         let row = mesh_row(&flat);
-        let usual = row.is_none().then(|| {
-            rust_grid(&Lists {
-                vertices: flat
-                    .positions
-                    .chunks(3)
-                    .map(|p| [p[0], p[1], p[2]])
-                    .collect(),
-                neighbors: lists_of(&flat),
-            })
-        });
+        let usual = row.is_none().then(|| rust_grid(&flat.lists()));
         let row = row.or(settings_row(settings));
         let places = usual.as_ref().map_or([40; 4], enough);
         let judge = if settings == USUAL {

@@ -1,14 +1,15 @@
-//! Demand 3's statement, executed: lists of renumbering calls, refused ones among them, on lattices
-//! of the oracle, with both grids built with the same pair and queried by the engine.
+//! Demand 3's statement with W-208, executed: lists of renumbering calls, refused ones among them, on
+//! lattices of the oracle, with their lists in order or not; both grids are built with the same pair
+//! and queried by the engine.
 
 use crate::check::{Check, Judge, Kinds, Tally};
 use crate::directions::{rust_of, Directions};
 use crate::grids::greatest_ids;
-use crate::meshes::{permutation, Flat, Lattice, Lists};
+use crate::meshes::{has_repeats, permutation, Flat, Lattice, Lists};
 use crate::pairs::{self, kinds_of_pair, USUAL};
 use crate::patterns::Random;
 use crate::queries::cell_of;
-use crate::walk::lists_of;
+use crate::renumber::{mark, State};
 use koshirga::{Grid, GridMut, MeshMut, Refusal, Scratch, Settings, Vector3};
 
 /// Lists of calls for each frequency, and directions for each list.
@@ -24,12 +25,6 @@ pub fn checks() -> Vec<Check> {
     ]
 }
 
-/// Mesh and data, as the calls leave them.
-struct State {
-    mesh: Flat,
-    values: Vec<f64>,
-}
-
 /// A call of any kind: a permutation or none, a form or none, scratch long enough or not.
 struct Call {
     permutation: Vec<u32>,
@@ -38,31 +33,27 @@ struct Call {
 }
 
 impl Call {
+    /// Such as no row refuses.
+    fn accepted(state: &State, form: usize, permutation: Vec<u32>) -> Self {
+        Call {
+            entries_per_vertex: if form == 1 { 1 } else { state.mesh.count() },
+            places: state.longest(&permutation),
+            permutation,
+        }
+    }
+
     fn random(random: &mut Random, state: &State, form: usize) -> Self {
         let count = state.mesh.count();
-        let mut ids: Vec<u32> = permutation(random, count)
-            .iter()
-            .map(|&id| id as u32)
-            .collect();
-        let longest = [
-            state.mesh.positions.len(),
-            state.mesh.starts.len(),
-            state.mesh.entries.len(),
-            state.values.len(),
-        ];
-        let mut call = Call {
-            entries_per_vertex: if form == 1 { 1 } else { count },
-            places: longest.into_iter().max().unwrap_or(0),
-            permutation: Vec::new(),
-        };
+        let ids = permutation(random, count);
+        let ids = ids.iter().map(|&id| id as u32).collect();
+        let mut call = Call::accepted(state, form, ids);
         match random.below(8) {
-            0 => ids[0] = ids[count - 1],
-            1 => ids.truncate(count - 1),
+            0 => call.permutation[0] = call.permutation[count - 1],
+            1 => call.permutation.truncate(count - 1),
             2 => call.entries_per_vertex = count + 1,
             3 => call.places -= 1,
             _ => {}
         }
-        call.permutation = ids;
         call
     }
 
@@ -71,6 +62,7 @@ impl Call {
             positions: &mut state.mesh.positions,
             starts: &mut state.mesh.starts,
             entries: &mut state.mesh.entries,
+            lists_ascend: &mut state.lists_ascend,
         };
         let scratch = Scratch {
             sources: &mut vec![0; self.places],
@@ -109,7 +101,8 @@ impl Built {
         let mut cell_starts = vec![0; 6 * side * side + 1];
         let mut cell_ids = vec![0; greatest_ids(count, settings.margin)];
         let mut triangle_starts = vec![0; count + 1];
-        let mut triples = vec![0; 3 * mesh.entries.len()];
+        // A lattice's triangles take 3 places an entry; one repeat a list at most doubles them.
+        let mut triples = vec![0; 6 * mesh.entries.len()];
         let lent = GridMut {
             cell_starts: &mut cell_starts,
             cell_ids: &mut cell_ids,
@@ -166,18 +159,19 @@ fn sorted(mut ids: Vec<u32>) -> Vec<u32> {
     ids
 }
 
-/// Positions, lists and data after the list, by the accumulated permutation.
+/// Positions, lists and data after the calls, by the accumulated permutation. W-208: "the mission's
+/// last demand compares neighbour lists sorted".
 fn state_moved(before: &State, after: &State, p: &[u32], form: usize) -> bool {
     let count = before.mesh.count();
-    let through =
-        |list: &[u16]| -> Vec<u16> { list.iter().map(|&id| p[usize::from(id)] as u16).collect() };
-    let (lists, lists_after) = (lists_of(&before.mesh), lists_of(&after.mesh));
+    let through = |list: &[u16]| sorted(list.iter().map(|&id| p[usize::from(id)]).collect());
+    let as_they_are = |list: &[u16]| sorted(list.iter().map(|&id| u32::from(id)).collect());
+    let [lists, lists_after] = [before, after].map(|state| state.mesh.lists().neighbors);
     let bits = |values: &[f64]| -> Vec<u64> { values.iter().map(|x| x.to_bits()).collect() };
     let vertices = (0..count).all(|v| {
         let at = p[v] as usize;
         let position = |mesh: &Flat, v: usize| bits(&mesh.positions[3 * v..3 * v + 3]);
         position(&before.mesh, v) == position(&after.mesh, at)
-            && through(&lists[v]) == lists_after[at]
+            && through(&lists[v]) == as_they_are(&lists_after[at])
     });
     let columns = if form == 1 { 1 } else { count };
     let slab = count * columns;
@@ -233,10 +227,77 @@ fn calls(tally: &mut Tally, form: usize, frequencies: &[usize]) {
                 let side = pairs::side(lists.vertices.len(), USUAL.factor);
                 lists.bring_edge_on(&mut random, side);
             }
-            one_list(tally, &mut kinds, &mut random, &lists, form, list);
+            let mut start = lists.clone();
+            if random.below(2) == 0 {
+                start.shuffle(&mut random);
+            }
+            one_list(tally, &mut kinds, &mut random, &start, form, list);
         }
     }
     kinds.all_reached(tally);
+}
+
+/// What the calls of a list came to, and whether the start's lists ascend.
+fn kinds_of_calls(before: &State, calls: usize, accepted: usize) -> [(&'static str, bool); 9] {
+    let lists = before.mesh.lists();
+    let ascend = lists.ascend();
+    let repeats = lists.neighbors.iter().any(|list| has_repeats(list));
+    let refused = accepted == 0 && calls > 0;
+    [
+        ("no call, lists in order", calls == 0 && ascend),
+        ("no call, lists out of order", calls == 0 && !ascend),
+        ("refused calls alone, lists in order", refused && ascend),
+        (
+            "refused calls alone, lists out of order",
+            refused && !ascend,
+        ),
+        (
+            "none accepted, the mark false",
+            accepted == 0 && !before.lists_ascend,
+        ),
+        (
+            "none accepted, the mark true",
+            accepted == 0 && before.lists_ascend,
+        ),
+        ("accepted calls, lists in order", accepted > 0 && ascend),
+        (
+            "accepted calls, lists out of order",
+            accepted > 0 && !ascend,
+        ),
+        (
+            "accepted calls, a list with a repeat",
+            accepted > 0 && repeats,
+        ),
+    ]
+}
+
+/// Where no call was accepted everything is as it was, lists and mark included. Else every list
+/// ascends and the mark is true, by the text of W-208; and as renumbering by p and then q is
+/// renumbering by the composition, one call by the accumulated permutation leaves the same.
+fn compare_order(
+    tally: &mut Tally,
+    before: &State,
+    after: &State,
+    composed: Option<Call>,
+    name: impl Fn() -> String,
+) {
+    let Some(composed) = composed else {
+        return tally.compare(Judge::Engine, after.same(before), || {
+            format!("not as it was after {}, none accepted", name())
+        });
+    };
+    let ascend = after.mesh.lists().ascend() && after.lists_ascend;
+    tally.compare(Judge::Beside, ascend, || {
+        format!("lists or mark don't ascend after {}", name())
+    });
+    let mut once = before.clone();
+    let answer = composed.apply(&mut once);
+    tally.compare(Judge::Engine, answer.is_ok() && once.same(after), || {
+        format!(
+            "{answer:?} or another state by one call in place of {}",
+            name()
+        )
+    });
 }
 
 /// One list of three is at the usual pair. The kinds are counted by lists.
@@ -252,15 +313,18 @@ fn one_list(
     let count = mesh.count();
     let slab = if form == 1 { count } else { count * count };
     let places = slab * random.below(3) as usize + random.below(slab as u64) as usize;
-    let start = || State {
-        mesh: mesh.clone(),
+    let before = State {
+        mesh,
+        lists_ascend: mark(random),
         values: (0..places).map(|i| i as f64 + 0.5).collect(),
     };
-    let (before, mut after) = (start(), start());
+    let mut after = before.clone();
     let mut p: Vec<u32> = (0..count as u32).collect();
+    let mut accepted = 0;
     for _ in 0..length {
         let call = Call::random(random, &after, form);
         if call.apply(&mut after).is_ok() {
+            accepted += 1;
             p.iter_mut()
                 .for_each(|id| *id = call.permutation[*id as usize]);
         }
@@ -275,6 +339,8 @@ fn one_list(
         state_moved(&before, &after, &p, form),
         || format!("mesh and data after {}", name()),
     );
+    let composed = (accepted > 0).then(|| Call::accepted(&before, form, p.clone()));
+    compare_order(tally, &before, &after, composed, name);
     let built = |state: &State| Built::new(&state.mesh, settings);
     let (Ok(grid), Ok(grid_after)) = (built(&before), built(&after)) else {
         return tally.compare(Judge::Engine, false, || {
@@ -319,5 +385,6 @@ fn one_list(
         ("a nearest query is answered", answered),
         ("a nearest query meets an empty cell", empty),
     ];
-    kinds.count(&[&kinds_of_pair(settings)[..], &of_grids].concat());
+    let of_calls = kinds_of_calls(&before, length, accepted);
+    kinds.count(&[&kinds_of_pair(settings)[..], &of_grids, &of_calls].concat());
 }

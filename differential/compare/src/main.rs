@@ -17,6 +17,7 @@ mod grids;
 mod helpers;
 mod invariance;
 mod lattices;
+mod marks;
 mod meshes;
 mod operands;
 mod pairs;
@@ -35,7 +36,7 @@ use std::io::{self, BufWriter, Write};
 use std::path::Path;
 use std::process::ExitCode;
 
-const TOPICS: [Topic; 11] = [
+const TOPICS: [Topic; 12] = [
     Topic::new("helpers", helpers::checks),
     Topic::new("arithmetic", arithmetic::checks),
     Topic::new("vectors", vectors::checks),
@@ -44,6 +45,7 @@ const TOPICS: [Topic; 11] = [
     Topic::new("walk", walk::checks),
     Topic::new("renumber", renumber::checks),
     Topic::new("lattices", lattices::checks),
+    Topic::new("marks", marks::checks),
     Topic::new("grids", grids::checks),
     Topic::new("queries", queries::checks),
     Topic::new("invariance", invariance::checks),

@@ -1,4 +1,4 @@
-//! Lattices of the oracle as flat slices, and random meshes.
+//! Lattices of the oracle as flat slices, and random meshes, with their lists in order or not.
 
 use crate::patterns::{Random, BIAS, SIGN};
 use icotable_oracle as rust;
@@ -31,6 +31,22 @@ impl Flat {
             positions: &self.positions,
             starts: &self.starts,
             entries: &self.entries,
+        }
+    }
+
+    /// The lists of a mesh that rows 2 to 4 let pass, 17 and 18 among them.
+    pub fn lists(&self) -> Lists {
+        Lists {
+            vertices: self
+                .positions
+                .chunks(3)
+                .map(|p| [p[0], p[1], p[2]])
+                .collect(),
+            neighbors: self
+                .starts
+                .windows(2)
+                .map(|pair| self.entries[pair[0] as usize..pair[1] as usize].to_vec())
+                .collect(),
         }
     }
 }
@@ -71,6 +87,28 @@ impl Lists {
         }
     }
 
+    /// Whether every list ascends, repeats side by side.
+    pub fn ascend(&self) -> bool {
+        self.neighbors.iter().all(|list| list.is_sorted())
+    }
+
+    pub fn sort(&mut self) {
+        self.neighbors
+            .iter_mut()
+            .for_each(|list| list.sort_unstable());
+    }
+
+    /// Brings each list into a random order, and repeats an entry in one list of four.
+    pub fn shuffle(&mut self, random: &mut Random) {
+        for list in &mut self.neighbors {
+            if (1..32).contains(&list.len()) && random.below(4) == 0 {
+                list.push(list[random.below(list.len() as u64) as usize]);
+            }
+            let order = permutation(random, list.len());
+            *list = order.iter().map(|&at| list[at]).collect();
+        }
+    }
+
     /// Brings about half of the vertices almost edge-on to a cube face: beside the greatest
     /// coordinate another becomes tiny. Then a number across so many cells comes to an end of the
     /// signed range, beside it or beyond.
@@ -97,6 +135,11 @@ impl Lists {
             position[tiny] = f64::from_bits(bits ^ SIGN * random.below(2));
         }
     }
+}
+
+/// Whether an id stands in a list twice, side by side or not.
+pub fn has_repeats(list: &[u16]) -> bool {
+    (1..list.len()).any(|at| list[..at].contains(&list[at]))
 }
 
 /// The lattice of a frequency, with its id table.

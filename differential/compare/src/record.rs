@@ -2,9 +2,11 @@
 //! source is not at hand. `crates/replay/README.md` says what the words of a record are.
 
 use crate::analytic::{rust_answer, Answer, Classifier};
+use crate::check::Left;
 use crate::directions::{row_9, rust_of, Directions};
 use crate::grids::{held_beside, mesh_row, row_5, rust_grid};
 use crate::helpers::conversion_by_fields;
+use crate::marks::exchange;
 use crate::meshes::{permutation, Flat, Lattice, Lists, FREQUENCIES};
 use crate::operands::{Class, RADICANDS, TRIPLES};
 use crate::patterns::{Patterns, Random};
@@ -36,6 +38,9 @@ const RENUMBERINGS: usize = 200;
 const GRIDS: usize = 200;
 /// Directions of a random grid.
 const QUERIES: usize = 6;
+/// Meshes whose lists ascend, almost ascend or were sorted, and renumberings by the identity.
+const ORDERED: usize = 60;
+const IDENTITIES: usize = 6;
 
 /// What the wrong records are made of: the file of a right one, the record in it, and the word of its
 /// answers that is changed, both counted from 0.
@@ -52,23 +57,32 @@ const WRONG: [(&str, usize, usize); 16] = [
     // The second weight.
     ("analytic_queries", 3, 5),
     // A coordinate: whole list of f64.
-    ("lattices", 8, 19),
+    ("lattices", 8, 20),
     // The hashes of positions and queue: f64 and u32.
-    ("lattice_hashes", 2, 1),
-    ("lattice_hashes", 2, 9),
+    ("lattice_hashes", 2, 2),
+    ("lattice_hashes", 2, 10),
     // The count of conversions held, at the first frequency that has one; the hash of the cell ids:
     // u16.
     ("grid_hashes", 36, 8),
     ("grid_hashes", 2, 10),
     // A vertex of the order: whole list of u32.
-    ("meshes", 70, 6),
+    ("meshes", 70, 9),
     // An entry: whole list of u16.
-    ("renumberings", 0, 81),
+    ("renumberings", 0, 82),
     // The number of candidates of the fourth direction.
     ("grid_queries", 34, 44),
 ];
+/// The same for the mark after a lattice, a reading and a renumbering: the file, and what becomes of
+/// the mark. The shortest record of this kind is taken.
+const WRONG_MARKS: [(&str, Marked); 4] = [
+    ("lattices", refused(true)),
+    ("lattice_hashes", accepted(false, true)),
+    ("meshes", accepted(true, false)),
+    ("renumberings", accepted(false, true)),
+];
 /// The same for the index of row 18: the file, and the call whose first index is changed.
-const WRONG_INDICES: [(&str, &str); 5] = [
+const WRONG_INDICES: [(&str, &str); 6] = [
+    ("meshes", READING),
     ("meshes", WALK),
     ("meshes", BUILDER),
     ("renumberings", RENUMBERING),
@@ -79,6 +93,7 @@ const WRONG_INDICES: [(&str, &str); 5] = [
 const WRONG_LOCATORS: [(usize, usize); 2] = [(0, 2), (1, 19)];
 
 /// The calls that read starts.
+const READING: &str = "reading";
 const WALK: &str = "walk";
 const BUILDER: &str = "builder";
 const RENUMBERING: &str = "renumbering";
@@ -91,13 +106,76 @@ const REACHED: [(&str, &[u32]); 3] = [
     ("grid_queries", &[2, 3, 9, 18, 11, 4, 12]),
 ];
 
+/// A call that is lent the mark: whether it is accepted, and the mark before and after it.
+#[derive(Clone, Copy, PartialEq)]
+struct Marked {
+    accepted: bool,
+    before: bool,
+    after: bool,
+}
+
+const fn accepted(before: bool, after: bool) -> Marked {
+    Marked {
+        accepted: true,
+        before,
+        after,
+    }
+}
+
+const fn refused(mark: bool) -> Marked {
+    Marked {
+        accepted: false,
+        before: mark,
+        after: mark,
+    }
+}
+
+/// What has to become of the mark in some call of a file.
+const MARKED: [(&str, &[Marked]); 4] = [
+    (
+        "lattices",
+        &[
+            accepted(false, true),
+            accepted(true, true),
+            refused(false),
+            refused(true),
+        ],
+    ),
+    (
+        "lattice_hashes",
+        &[accepted(false, true), accepted(true, true)],
+    ),
+    (
+        "meshes",
+        &[
+            accepted(false, true),
+            accepted(true, true),
+            accepted(false, false),
+            accepted(true, false),
+            refused(false),
+            refused(true),
+        ],
+    ),
+    (
+        "renumberings",
+        &[
+            accepted(false, true),
+            accepted(true, true),
+            refused(false),
+            refused(true),
+        ],
+    ),
+];
+
 /// What stands in lent places before a call.
 const F64_BEFORE: f64 = 1.5;
 const U32_BEFORE: u32 = 0xdead_beef;
 const U16_BEFORE: u16 = 0xbeef;
 
 /// A record being written: its words and the places of those that are answers. Of calls that read
-/// starts, the rows that refuse them, and which of the answers is the index that row 18 carries.
+/// starts, the rows that refuse them, and which of the answers is the index that row 18 carries; of
+/// the one that is lent the mark, what became of it, and which answer it is after the call; of a
+/// renumbered mesh, how the Rust left its lists.
 #[derive(Clone, Default)]
 struct Record {
     words: Vec<String>,
@@ -105,6 +183,8 @@ struct Record {
     answering: bool,
     rows: Vec<u32>,
     indices: Vec<(&'static str, usize)>,
+    marked: Option<(Marked, usize)>,
+    left: Left,
 }
 
 impl Record {
@@ -192,6 +272,16 @@ impl Record {
         self.length(index.unwrap_or(0))
     }
 
+    fn mark(self, lists_ascend: bool) -> Self {
+        self.number(u32::from(lists_ascend))
+    }
+
+    /// The mark after a call.
+    fn marked(mut self, marked: Marked) -> Self {
+        self.marked = Some((marked, self.answers.len()));
+        self.mark(marked.after)
+    }
+
     /// The answer of a walk, with the entries read; the builder's begins so, with the side.
     fn counted(self, call: &'static str, answer: Result<u32, Reason>) -> Self {
         self.outcome()
@@ -229,6 +319,10 @@ impl Record {
             Err(_) => record.numbers(&[0u32; 7]),
         }
         .index(LOCATION, row)
+    }
+
+    fn has(&self, mark: Marked) -> bool {
+        self.marked.is_some_and(|(marked, _)| marked == mark)
     }
 
     /// The record with one word of its answers changed in its last bit.
@@ -292,6 +386,12 @@ pub fn write(folder: &Path) -> io::Result<()> {
     for (name, rows) in REACHED {
         all_reached(name, right(&files, name).1, rows)?;
     }
+    for (name, marks) in MARKED {
+        all_marked(name, right(&files, name).1, marks)?;
+    }
+    for name in ["meshes", "renumberings"] {
+        some_sorted(name, right(&files, name).1)?;
+    }
     let mut printed = String::new();
     fs::create_dir_all(folder.join("data"))?;
     for (name, records) in &files {
@@ -328,6 +428,38 @@ fn all_reached(name: &str, records: &Records, rows: &[u32]) -> io::Result<()> {
     Ok(())
 }
 
+/// Prints how often the mark went so. Never is an error.
+fn all_marked(name: &str, records: &Records, marks: &[Marked]) -> io::Result<()> {
+    let mut counts = Vec::new();
+    for mark in marks {
+        let count = records.iter().filter(|record| record.has(*mark)).count();
+        let (before, after) = (mark.before, mark.after);
+        let call = if mark.accepted { "accepted" } else { "refused" };
+        if count == 0 {
+            let message = format!("no {call} call of {name} has the mark {before}, then {after}");
+            return Err(io::Error::other(message));
+        }
+        counts.push(format!("{count} {call}: {before}, then {after}"));
+    }
+    println!("{name}: mark before and after: {}", counts.join("; "));
+    Ok(())
+}
+
+/// Prints how many lists the Rust's renumberings left, and how many of them were out of order before
+/// they were sorted. None is an error.
+fn some_sorted(name: &str, records: &Records) -> io::Result<()> {
+    let sum = |of: fn(&Left) -> u64| -> u64 { records.iter().map(|record| of(&record.left)).sum() };
+    let lists = sum(|left| left.lists);
+    let out_of_order = sum(|left| left.out_of_order);
+    let with_repeats = sum(|left| left.with_repeats);
+    if out_of_order == 0 || with_repeats == 0 {
+        let message = format!("no list of {name} was out of order, or none with a repeat");
+        return Err(io::Error::other(message));
+    }
+    println!("{name}: the Rust's renumberings left {lists} lists, {out_of_order} of them out of order, then sorted, {with_repeats} of these with a repeat");
+    Ok(())
+}
+
 /// The number of a file in the program's order, and its records.
 fn right<'a>(files: &'a [(String, Records)], name: &str) -> (usize, &'a Records) {
     let at = files.iter().position(|(file, _)| file == name);
@@ -344,6 +476,14 @@ fn wrong_records(files: &[(String, Records)]) -> String {
             format!("{kind:x} {}", records[at].wrong(answer).line())
         })
         .collect();
+    lines.extend(WRONG_MARKS.map(|(name, mark)| {
+        let (kind, records) = right(files, name);
+        let of_kind = records.iter().filter(|record| record.has(mark));
+        let shortest = of_kind.min_by_key(|record| record.line().len());
+        let wrong = shortest.and_then(|record| Some(record.wrong(record.marked?.1)));
+        let wrong = wrong.expect("a call with this mark");
+        format!("{kind:x} {}", wrong.line())
+    }));
     lines.extend(WRONG_INDICES.map(|(name, call)| {
         let (kind, records) = right(files, name);
         let wrong = records.iter().find_map(|record| {
@@ -539,6 +679,8 @@ fn lattices() -> Records {
     let mut random = Random::new(107);
     let mut records = Records::new();
     let mut record = |n: u32, places: [usize; 4], answer: Result<&Lattice, u32>| {
+        // Two records with each value in turn.
+        let before = records.len() % 4 > 1;
         let (mesh, ids) = match answer {
             Ok(lattice) => (lattice.lists.flat(), &lattice.ids[..]),
             Err(_) => (Flat::default(), &[][..]),
@@ -551,8 +693,13 @@ fn lattices() -> Records {
         let call = Record::default()
             .number(n)
             .lengths(&places)
+            .mark(before)
             .outcome()
-            .number(answer.err().unwrap_or(0));
+            .number(answer.err().unwrap_or(0))
+            .marked(match answer {
+                Ok(_) => accepted(before, true),
+                Err(_) => refused(before),
+            });
         let left = mesh_words(call, &after).numbers(&over(U16_BEFORE, places[3], ids));
         records.push(walk_words(&mut random, left, &after));
     };
@@ -579,13 +726,21 @@ fn lattices() -> Records {
     records
 }
 
-fn lattice_hash(frequency: usize, lattice: &Lattice) -> Record {
+/// With the mark before the call, where it is recorded.
+fn lattice_hash(frequency: usize, lattice: &Lattice, before: Option<bool>) -> Record {
     let mesh = lattice.lists.flat();
-    Record::default()
+    let head = Record::default()
         .length(frequency)
-        .lengths(&needed(&mesh, &lattice.ids))
-        .outcome()
-        .number(0u32)
+        .lengths(&needed(&mesh, &lattice.ids));
+    let answered = match before {
+        Some(before) => head
+            .mark(before)
+            .outcome()
+            .number(0u32)
+            .marked(accepted(before, true)),
+        None => head.outcome().number(0u32),
+    };
+    answered
         .number(hash_f64s(&mesh.positions))
         .number(hash_u32s(&mesh.starts))
         .number(hash_u16s(&mesh.entries))
@@ -599,7 +754,7 @@ fn lattice_hashes() -> Records {
             let lattice = Lattice::new(frequency);
             let count = lattice.lists.vertices.len();
             let (walk, order, queue) = walk::rust_outcome(&lattice.lists.neighbors, count, count);
-            lattice_hash(frequency, &lattice)
+            lattice_hash(frequency, &lattice, Some(frequency % 2 == 0))
                 .lengths(&[count, count])
                 .counted(WALK, walk)
                 .number(hash_u32s(&order))
@@ -629,7 +784,7 @@ fn grid_hashes() -> Records {
         .map(|frequency| {
             let lattice = Lattice::new(frequency);
             let grid = rust_grid(&lattice.lists);
-            lattice_hash(frequency, &lattice)
+            lattice_hash(frequency, &lattice, None)
                 .lengths(&grid_lengths(&grid))
                 .built(Ok(built_beside(&grid)))
                 .number(hash_u32s(&grid.cell_starts))
@@ -658,19 +813,8 @@ fn mesh_words(record: Record, mesh: &Flat) -> Record {
         .numbers(&mesh.entries)
 }
 
-fn lists_of(mesh: &Flat) -> Lists {
-    Lists {
-        vertices: mesh
-            .positions
-            .chunks(3)
-            .map(|p| [p[0], p[1], p[2]])
-            .collect(),
-        neighbors: walk::lists_of(mesh),
-    }
-}
-
-/// Walk and grid of random meshes, and of the starts by hand. Places are as many as are filled, or some
-/// more, or one less.
+/// The reading of the lists, walk and grid of random meshes, of meshes in order, and of the starts by
+/// hand. Places are as many as are filled, or some more, or one less.
 fn meshes() -> Records {
     let mut random = Random::new(103);
     let mut records = Records::new();
@@ -685,16 +829,69 @@ fn meshes() -> Records {
                 mesh.positions[at] = [f64::NAN, f64::INFINITY, 1e7, -2e6][random.below(4) as usize];
             }
         }
-        records.push(mesh_record(&mut random, &mesh));
+        records.push(mesh_record(&mut random, &mesh, at % 4 > 1));
     }
-    records.extend(by_hand().map(|(mesh, _)| mesh_record(&mut random, &mesh)));
+    records.extend(ordered_meshes());
+    let by_hand = by_hand().enumerate();
+    records.extend(by_hand.map(|(at, (mesh, _))| mesh_record(&mut random, &mesh, at % 2 == 1)));
     records
 }
 
-fn mesh_record(random: &mut Random, mesh: &Flat) -> Record {
+/// In turn a mesh whose lists ascend, one with two entries exchanged, and one that the Rust
+/// renumbered, its lists then sorted.
+fn ordered_meshes() -> Records {
+    let mut random = Random::new(108);
+    let mut ordered = |at: usize| {
+        let mut lists = small(&mut random, 14, 90);
+        let count = lists.vertices.len();
+        if at % 3 < 2 {
+            lists.sort();
+        }
+        if at % 3 == 1 {
+            exchange(&mut random, &mut lists);
+        }
+        let mut mesh = lists.flat();
+        let mut left = Left::default();
+        if at % 3 == 2 {
+            let order = permutation(&mut random, count);
+            let start = State {
+                mesh,
+                lists_ascend: false,
+                values: Vec::new(),
+            };
+            let rust = renumber::rust_renumbered(&mut left, &start, &order, 1);
+            mesh = rust.state.mesh;
+        }
+        Record {
+            left,
+            ..mesh_record(&mut random, &mesh, at % 2 == 1)
+        }
+    };
+    (0..ORDERED).map(&mut ordered).collect()
+}
+
+/// With the mark before the lists are read.
+fn mesh_record(random: &mut Random, mesh: &Flat, before: bool) -> Record {
     let head = Record::default().lengths(&needed(mesh, &[])[..3]);
-    let record = walk_words(random, mesh_words(head, mesh), mesh);
+    let read = reading_words(mesh_words(head, mesh), mesh, before);
+    let record = walk_words(random, read, mesh);
     grid_words(random, record, mesh)
+}
+
+/// The mark by Rust's own `is_sorted`.
+fn reading_words(record: Record, mesh: &Flat, before: bool) -> Record {
+    let row = adjacency_row(mesh);
+    let marked = match row {
+        Some(_) => refused(before),
+        None => accepted(before, mesh.lists().ascend()),
+    };
+    record
+        .call()
+        .mark(before)
+        .outcome()
+        .refusal(row)
+        .index(READING, row)
+        .marked(marked)
 }
 
 /// So many places, or up to two more, or one less.
@@ -709,7 +906,7 @@ fn walk_words(random: &mut Random, record: Record, mesh: &Flat) -> Record {
     let row = adjacency_row(mesh).or(short.then_some(Reason::row(8)));
     let (answer, order, queue) = match row {
         Some(reason) => walk::refused(reason, places[0], places[1]),
-        None => walk::rust_outcome(&walk::lists_of(mesh), places[0], places[1]),
+        None => walk::rust_outcome(&mesh.lists().neighbors, places[0], places[1]),
     };
     record
         .lengths(&places)
@@ -720,7 +917,7 @@ fn walk_words(random: &mut Random, record: Record, mesh: &Flat) -> Record {
 
 fn grid_words(random: &mut Random, record: Record, mesh: &Flat) -> Record {
     let row = mesh_row(mesh);
-    let grid = row.is_none().then(|| rust_grid(&lists_of(mesh)));
+    let grid = row.is_none().then(|| rust_grid(&mesh.lists()));
     let exact = grid.as_ref().map_or([20; 4], grid_lengths);
     let places = exact.map(|length| about(random, length));
     let short = (0..4).any(|i| places[i] < exact[i]);
@@ -756,7 +953,8 @@ fn grid_words(random: &mut Random, record: Record, mesh: &Flat) -> Record {
 }
 
 /// Lattices by their walks and reversed, with one value a vertex and one a pair; random permutations
-/// of random meshes with data of any length; rows 2, 3, 17, 18, 4, 6, 7 and 8; the starts by hand.
+/// of random meshes with data of any length; rows 2, 3, 17, 18, 4, 6, 7 and 8; the identity on lists
+/// out of order; the starts by hand.
 fn renumberings() -> Records {
     let mut records = Records::new();
     for (frequency, pairs) in [(1, false), (1, true), (2, false)] {
@@ -768,6 +966,7 @@ fn renumberings() -> Records {
         for order in [walk, (0..count).rev().collect()] {
             let state = State {
                 values: numbered(count * each + 3),
+                lists_ascend: records.len() % 2 == 1,
                 mesh: mesh.clone(),
             };
             let ids: Vec<u32> = order.iter().map(|&id| id as u32).collect();
@@ -777,12 +976,23 @@ fn renumberings() -> Records {
     }
     let mut random = Random::new(104);
     for at in 0..RENUMBERINGS {
-        records.push(random_renumbering(&mut random, at % 2 == 1));
+        records.push(random_renumbering(&mut random, at % 2 == 1, at % 4 > 1));
     }
-    records.extend(by_hand().map(|(mesh, _)| {
+    let mut random = Random::new(109);
+    let out_of_order = (0..IDENTITIES).map(|_| loop {
+        let lists = small(&mut random, 8, 60);
+        if !lists.ascend() {
+            return lists.flat();
+        }
+    });
+    let meshes: Vec<Flat> = out_of_order
+        .chain(by_hand().map(|(mesh, _)| mesh))
+        .collect();
+    records.extend(meshes.into_iter().enumerate().map(|(at, mesh)| {
         let ids: Vec<u32> = (0..mesh.count() as u32).collect();
         let state = State {
             values: numbered(ids.len()),
+            lists_ascend: at % 2 == 1,
             mesh,
         };
         renumbering(&state, &ids, 1, [state.longest(&ids); 5])
@@ -795,7 +1005,7 @@ fn numbered(length: usize) -> Vec<f64> {
     (0..length).map(|at| at as f64 - 2.0).collect()
 }
 
-fn random_renumbering(random: &mut Random, damaged: bool) -> Record {
+fn random_renumbering(random: &mut Random, damaged: bool, lists_ascend: bool) -> Record {
     let mut mesh = small(random, 8, 60).flat();
     let count = mesh.count();
     let mut each = [1, count][random.below(2) as usize];
@@ -816,6 +1026,7 @@ fn random_renumbering(random: &mut Random, damaged: bool) -> Record {
     }
     let state = State {
         values: numbered(length),
+        lists_ascend,
         mesh,
     };
     let mut places = [state.longest(&ids); 5];
@@ -827,11 +1038,14 @@ fn random_renumbering(random: &mut Random, damaged: bool) -> Record {
 
 fn renumbering(state: &State, ids: &[u32], each: usize, places: [usize; 5]) -> Record {
     let row = renumber::renumbering_row(state, ids, each, places);
-    let after = match row {
-        Some(_) => state.clone(),
+    let before = state.lists_ascend;
+    let mut left = Left::default();
+    let (marked, after) = match row {
+        Some(_) => (refused(before), state.clone()),
         None => {
             let order: Vec<usize> = ids.iter().map(|&id| id as usize).collect();
-            renumber::rust_renumbered(state, &order, each)
+            let rust = renumber::rust_renumbered(&mut left, state, &order, each);
+            (accepted(before, true), rust.state)
         }
     };
     let head = Record::default()
@@ -842,10 +1056,15 @@ fn renumbering(state: &State, ids: &[u32], each: usize, places: [usize; 5]) -> R
         .numbers(ids)
         .length(each)
         .lengths(&places)
+        .mark(before)
         .outcome()
         .refusal(row)
-        .index(RENUMBERING, row);
-    mesh_words(call, &after.mesh).doubles(&after.values)
+        .index(RENUMBERING, row)
+        .marked(marked);
+    Record {
+        left,
+        ..mesh_words(call, &after.mesh).doubles(&after.values)
+    }
 }
 
 /// Queries of random grids. A damaged grid's answers are those of document 01's checks, as the Rust

@@ -1,10 +1,9 @@
-//! Renumbering beside the Rust's, and its refusals beside the rows' text.
+//! Renumbering beside the Rust's with its lists sorted, and its refusals beside the rows' text.
 
-use crate::check::{Check, Judge, Kinds, Rows, Tally};
+use crate::check::{Check, Judge, Kinds, Left, Rows, Tally};
 use crate::meshes::{permutation, Flat, Lattice, Lists, FREQUENCIES};
 use crate::patterns::Random;
 use crate::rows::{adjacency_row, by_hand, damage, kinds_of_starts, Reason};
-use crate::walk::lists_of;
 use icotable_oracle as rust;
 use koshirga::{MeshMut, Scratch};
 
@@ -23,15 +22,21 @@ pub fn checks() -> Vec<Check> {
     ]
 }
 
-/// Mesh and data.
+/// Mesh, the mark that its lists ascend, and data.
 #[derive(Clone, Debug)]
 pub struct State {
     pub mesh: Flat,
+    pub lists_ascend: bool,
     pub values: Vec<f64>,
 }
 
 impl State {
-    fn same(&self, other: &State) -> bool {
+    /// All slices and the mark.
+    pub fn same(&self, other: &State) -> bool {
+        self.same_slices(other) && self.lists_ascend == other.lists_ascend
+    }
+
+    fn same_slices(&self, other: &State) -> bool {
         let bits = |x: &[f64], y: &[f64]| {
             x.len() == y.len() && x.iter().zip(y).all(|(x, y)| x.to_bits() == y.to_bits())
         };
@@ -93,6 +98,7 @@ fn renumber(
         positions: &mut state.mesh.positions,
         starts: &mut state.mesh.starts,
         entries: &mut state.mesh.entries,
+        lists_ascend: &mut state.lists_ascend,
     };
     let scratch = Scratch {
         sources: &mut room.sources,
@@ -106,16 +112,24 @@ fn renumber(
         .map(Reason::from)
 }
 
-pub fn rust_renumbered(state: &State, permutation: &[usize], each: usize) -> State {
-    let mut lists = Lists {
-        vertices: state
-            .mesh
-            .positions
-            .chunks(3)
-            .map(|p| [p[0], p[1], p[2]])
-            .collect(),
-        neighbors: lists_of(&state.mesh),
-    };
+/// What the Rust's renumbering leaves.
+pub struct Renumbered {
+    /// With each list sorted, and the mark set.
+    pub state: State,
+    /// The same mesh with its lists as the Rust left them.
+    pub unsorted: Lists,
+}
+
+/// W-208: "The differential run sorts the Rust's lists after each renumbering, before a walk or grid
+/// is built on them." The Rust itself keeps a list's order. Every renumbered mesh of the Rust's comes
+/// from here.
+pub fn rust_renumbered(
+    left: &mut Left,
+    state: &State,
+    permutation: &[usize],
+    each: usize,
+) -> Renumbered {
+    let mut lists = state.mesh.lists();
     let mut values = state.values.clone();
     let count = lists.vertices.len();
     rust::apply_vertex_permutation(
@@ -126,9 +140,16 @@ pub fn rust_renumbered(state: &State, permutation: &[usize], each: usize) -> Sta
         count,
         each,
     );
-    State {
-        mesh: lists.flat(),
-        values,
+    lists.neighbors.iter().for_each(|list| left.count(list));
+    let unsorted = lists.clone();
+    lists.sort();
+    Renumbered {
+        state: State {
+            mesh: lists.flat(),
+            lists_ascend: true,
+            values,
+        },
+        unsorted,
     }
 }
 
@@ -136,18 +157,47 @@ fn numbers(permutation: &[usize]) -> Vec<u32> {
     permutation.iter().map(|&id| id as u32).collect()
 }
 
-fn compare(tally: &mut Tally, start: &State, permutation: &[usize], each: usize, name: &str) {
+/// Renumbers on both sides and compares: what the engine left, and what the Rust did.
+pub fn compare(
+    tally: &mut Tally,
+    start: &State,
+    permutation: &[usize],
+    each: usize,
+    name: &str,
+) -> (State, Renumbered) {
     let ids = numbers(permutation);
     let mut ours = start.clone();
     let refusal = {
         let mut room = Room::new([start.longest(&ids); 5]);
         renumber(&mut ours, &ids, each, &mut room)
     };
-    let rust = rust_renumbered(start, permutation, each);
-    tally.compare(Judge::Rust, refusal.is_none() && ours.same(&rust), || {
+    let rust = rust_renumbered(&mut tally.left, start, permutation, each);
+    let same = refusal.is_none() && ours.same_slices(&rust.state);
+    tally.compare(Judge::Rust, same, || {
         let (vertices, values) = (start.mesh.count(), start.values.len());
-        format!("{name}: {vertices} vertices, {values} values, {each} each: {refusal:?}, or other slices than Rust's")
+        format!("{name}: {vertices} vertices, {values} values, {each} each: {refusal:?}, or other slices than Rust's with sorted lists")
     });
+    compare_mark(tally, start, &ours, || name.to_string());
+    (ours, rust)
+}
+
+/// The mark of an accepted call, which the Rust has not.
+fn compare_mark(tally: &mut Tally, start: &State, ours: &State, name: impl Fn() -> String) {
+    tally.compare(Judge::Beside, ours.lists_ascend, || {
+        let (before, name) = (start.lists_ascend, name());
+        format!("{name}: the mark was {before}, and is false")
+    });
+}
+
+/// The mark before a call, and whether a row refuses the call.
+fn kinds_of_mark(start: &State, row: Option<Reason>) -> [(&'static str, bool); 4] {
+    let (marked, accepted) = (start.lists_ascend, row.is_none());
+    [
+        ("accepted, the mark false before", accepted && !marked),
+        ("accepted, the mark true before", accepted && marked),
+        ("refused, the mark false", !accepted && !marked),
+        ("refused, the mark true", !accepted && marked),
+    ]
 }
 
 /// `count` different values. One in eight is a NaN of any sign, kind and payload: a value is moved
@@ -162,6 +212,20 @@ fn values(random: &mut Random, count: usize) -> Vec<f64> {
         .collect()
 }
 
+/// The mark before a call.
+pub fn mark(random: &mut Random) -> bool {
+    random.below(2) == 1
+}
+
+/// A mesh with its mark drawn, and one value a vertex.
+pub fn drawn(random: &mut Random, lists: &Lists) -> State {
+    State {
+        mesh: lists.flat(),
+        lists_ascend: mark(random),
+        values: values(random, lists.vertices.len()),
+    }
+}
+
 /// The walk's order, the reversed one and a random one.
 fn permutations(random: &mut Random, lists: &Lists) -> [(&'static str, Vec<usize>); 3] {
     let count = lists.vertices.len();
@@ -174,6 +238,7 @@ fn permutations(random: &mut Random, lists: &Lists) -> [(&'static str, Vec<usize
 
 fn lattices(tally: &mut Tally) {
     let mut random = Random::new(61);
+    let mut kinds = Kinds::default();
     for frequency in FREQUENCIES {
         let lists = Lattice::new(frequency).lists;
         let mesh = lists.flat();
@@ -181,12 +246,15 @@ fn lattices(tally: &mut Tally) {
             let length = 2 * mesh.count() + random.below(mesh.count() as u64) as usize;
             let start = State {
                 mesh: mesh.clone(),
+                lists_ascend: mark(&mut random),
                 values: values(&mut random, length),
             };
             let name = format!("{name}, frequency {frequency}");
             compare(tally, &start, &permutation, 1, &name);
+            kinds.count(&kinds_of_mark(&start, None)[..2]);
         }
     }
+    kinds.all_reached(tally);
 }
 
 fn pairs(tally: &mut Tally) {
@@ -198,6 +266,7 @@ fn pairs(tally: &mut Tally) {
         for (name, permutation) in permutations(&mut random, &lists) {
             let start = State {
                 mesh: mesh.clone(),
+                lists_ascend: mark(&mut random),
                 values: values(&mut random, count * count + count),
             };
             let name = format!("{name}, frequency {frequency}");
@@ -213,6 +282,7 @@ fn random_state(random: &mut Random, each_of: fn(&mut Random, usize) -> usize) -
     let slab = mesh.count() * each;
     let length = (random.below(4) as usize * slab) + random.below(slab as u64 + 2) as usize;
     let state = State {
+        lists_ascend: mark(random),
         values: values(random, length),
         mesh,
     };
@@ -227,13 +297,30 @@ fn one_or_count(random: &mut Random, count: usize) -> usize {
     }
 }
 
+/// One renumbering of eight is by the identity, which sorts the lists and moves nothing else.
 fn random_meshes(tally: &mut Tally) {
     let mut random = Random::new(63);
+    let mut kinds = Kinds::default();
     for at in 0..MESHES {
         let (start, each) = random_state(&mut random, one_or_count);
-        let permutation = permutation(&mut random, start.mesh.count());
+        let count = start.mesh.count();
+        let identity = random.below(8) == 0;
+        let permutation = if identity {
+            (0..count).collect()
+        } else {
+            permutation(&mut random, count)
+        };
         compare(tally, &start, &permutation, each, &format!("mesh {at}"));
+        let ascend = start.mesh.lists().ascend();
+        let of_lists = [
+            ("the identity, on lists out of order", identity && !ascend),
+            ("the identity, on lists that ascend", identity && ascend),
+        ];
+        kinds.count(&[&kinds_of_mark(&start, None)[..2], &of_lists].concat());
     }
+    kinds.all_reached(tally);
+    let repeats = tally.left.with_repeats;
+    tally.reached("a list out of order, with a repeat".to_string(), repeats);
 }
 
 fn is_permutation(count: usize, permutation: &[u32]) -> bool {
@@ -264,26 +351,30 @@ pub fn renumbering_row(
 fn starts_by_hand(tally: &mut Tally) {
     for (mesh, reason) in by_hand() {
         let ids: Vec<u32> = (0..mesh.count() as u32).collect();
-        let start = State {
-            values: vec![2.5; mesh.count()],
-            mesh,
-        };
-        let places = [start.longest(&ids); 5];
-        let row = renumbering_row(&start, &ids, 1, places);
-        let (mut ours, mut room) = (start.clone(), Room::new(places));
-        let refusal = renumber(&mut ours, &ids, 1, &mut room);
-        let slices = ours.same(&start) && room.untouched();
-        let same = row == Some(reason) && refusal == Some(reason) && slices;
-        tally.compare(Judge::Rows, same, || {
-            format!("{start:?}: {refusal:?}, by hand {reason:?}, rows {row:?}, slices as they should be: {slices}")
-        });
+        for lists_ascend in [false, true] {
+            let start = State {
+                values: vec![2.5; mesh.count()],
+                mesh: mesh.clone(),
+                lists_ascend,
+            };
+            let places = [start.longest(&ids); 5];
+            let row = renumbering_row(&start, &ids, 1, places);
+            let (mut ours, mut room) = (start.clone(), Room::new(places));
+            let refusal = renumber(&mut ours, &ids, 1, &mut room);
+            let kept = ours.same(&start) && room.untouched();
+            let same = row == Some(reason) && refusal == Some(reason) && kept;
+            tally.compare(Judge::Rows, same, || {
+                format!("{start:?}: {refusal:?}, by hand {reason:?}, rows {row:?}, slices and mark as they should be: {kept}")
+            });
+        }
     }
 }
 
-/// Rows 2, 3, 17, 18, 4, 6, 7 and 8 leave every slice as it was.
+/// Rows 2, 3, 17, 18, 4, 6, 7 and 8 leave every slice and the mark as they were.
 fn refusals(tally: &mut Tally) {
     let mut random = Random::new(64);
-    let (mut rows, mut kinds) = (Rows::default(), Kinds::default());
+    let mut rows = Rows::default();
+    let (mut kinds, mut marks) = (Kinds::default(), Kinds::default());
     for at in 0..MESHES {
         let (mut start, _) = random_state(&mut random, one_or_count);
         let old_count = start.mesh.count();
@@ -313,19 +404,23 @@ fn refusals(tally: &mut Tally) {
         let mut ours = start.clone();
         let mut room = Room::new(places);
         let refusal = renumber(&mut ours, &ids, each, &mut room);
-        let (judge, slices) = match row {
+        let (judge, kept) = match row {
             Some(_) => (Judge::Rows, ours.same(&start) && room.untouched()),
             None => {
                 let old: Vec<usize> = ids.iter().map(|&id| id as usize).collect();
-                (Judge::Rust, ours.same(&rust_renumbered(&start, &old, each)))
+                let rust = rust_renumbered(&mut tally.left, &start, &old, each);
+                compare_mark(tally, &start, &ours, || format!("call {at}"));
+                (Judge::Rust, ours.same_slices(&rust.state))
             }
         };
         rows.count(row);
         kinds.count(&kinds_of_starts(&start.mesh, row));
-        tally.compare(judge, refusal == row && slices, || {
-            format!("call {at}: {start:?}, {ids:?}, {each} each, places {places:?}: {refusal:?}, rows {row:?}, slices as they should be: {slices}")
+        marks.count(&kinds_of_mark(&start, row));
+        tally.compare(judge, refusal == row && kept, || {
+            format!("call {at}: {start:?}, {ids:?}, {each} each, places {places:?}: {refusal:?}, rows {row:?}, slices (and a refused call's mark) as they should be: {kept}")
         });
     }
     rows.all_reached(tally, &[2, 3, 17, 18, 4, 6, 7, 8]);
     kinds.all_reached(tally);
+    marks.all_reached(tally);
 }

@@ -1,8 +1,10 @@
-//! The breadth-first order beside the Rust's, and its refusals beside the rows' text.
+//! The breadth-first order beside the Rust's, also of renumbered meshes, and its refusals beside the
+//! rows' text.
 
 use crate::check::{Check, Judge, Kinds, Rows, Tally};
-use crate::meshes::{Flat, Lattice, Lists, FREQUENCIES};
+use crate::meshes::{permutation, Flat, Lattice, Lists, FREQUENCIES};
 use crate::patterns::Random;
+use crate::renumber::{self, drawn, Renumbered};
 use crate::rows::{adjacency_row, by_hand, damage, kinds_of_starts, Reason};
 use icotable_oracle as rust;
 
@@ -15,6 +17,8 @@ pub fn checks() -> Vec<Check> {
     vec![
         Check::new("80 lattices", lattices),
         Check::new("random meshes", random_meshes),
+        Check::new("80 lattices, renumbered", renumbered_lattices),
+        Check::new("random meshes, renumbered", renumbered_meshes),
         Check::new("starts by hand", starts_by_hand),
         Check::new("refusals", refusals),
     ]
@@ -57,11 +61,24 @@ pub fn rust_outcome(neighbors: &[Vec<u16>], order_places: usize, queue_places: u
 }
 
 fn compare(tally: &mut Tally, lists: &Lists, surplus: [usize; 2]) {
-    let flat = lists.flat();
-    let places = surplus.map(|more| flat.count() + more);
-    let ours = walked(&flat, places[0], places[1]);
+    let mesh = lists.flat();
+    compare_walks(tally, &mesh, lists, surplus, || {
+        format!("{:?}", lists.neighbors)
+    });
+}
+
+/// The engine's walk of its mesh, and the Rust's of its own.
+fn compare_walks(
+    tally: &mut Tally,
+    mesh: &Flat,
+    lists: &Lists,
+    surplus: [usize; 2],
+    name: impl Fn() -> String,
+) {
+    let places = surplus.map(|more| mesh.count() + more);
+    let ours = walked(mesh, places[0], places[1]);
     let rust = rust_outcome(&lists.neighbors, places[0], places[1]);
-    held_to_rust(tally, &ours, &rust, || format!("{:?}", lists.neighbors));
+    held_to_rust(tally, &ours, &rust, name);
 }
 
 /// The order is the Rust's. Queue and answer, which it does not return, are worked out from it; row
@@ -91,6 +108,75 @@ fn random_meshes(tally: &mut Tally) {
         let surplus = [random.below(3) as usize, random.below(3) as usize];
         compare(tally, &lists, surplus);
     }
+}
+
+/// A mesh renumbered on both sides, and then walked. Whether the walk of the Rust's lists had another
+/// order before they were sorted.
+fn renumbered(
+    tally: &mut Tally,
+    random: &mut Random,
+    lists: &Lists,
+    by: &[usize],
+    name: &str,
+) -> bool {
+    let start = drawn(random, lists);
+    let (ours, Renumbered { state, unsorted }) = renumber::compare(tally, &start, by, 1, name);
+    let sorted = state.mesh.lists();
+    compare_walks(tally, &ours.mesh, &sorted, [0, 0], || name.to_string());
+    let order = |lists: &Lists| rust::bfs_vertex_permutation(&lists.neighbors);
+    order(&sorted) != order(&unsorted)
+}
+
+/// Each by its walk and at random. By its walk it is then walked in the order of the ids, whether its
+/// lists are sorted or not.
+fn renumbered_lattices(tally: &mut Tally) {
+    let mut random = Random::new(53);
+    let mut kinds = Kinds::default();
+    for frequency in FREQUENCIES {
+        let lists = Lattice::new(frequency).lists;
+        let walk = rust::bfs_vertex_permutation(&lists.neighbors);
+        let name = format!("the lattice of frequency {frequency}, by its walk");
+        renumbered(tally, &mut random, &lists, &walk, &name);
+        let other = permutation(&mut random, lists.vertices.len());
+        let name = format!("the lattice of frequency {frequency}, renumbered at random");
+        let differs = renumbered(tally, &mut random, &lists, &other, &name);
+        kinds.count(&[("at random: another order before the sort", differs)]);
+    }
+    kinds.all_reached(tally);
+}
+
+/// By their walks where these reach all, by the identity, and at random.
+fn renumbered_meshes(tally: &mut Tally) {
+    let mut random = Random::new(54);
+    let mut kinds = Kinds::default();
+    for at in 0..MESHES {
+        let lists = Lists::random(&mut random);
+        let count = lists.vertices.len();
+        let walk = rust::bfs_vertex_permutation(&lists.neighbors);
+        let reaches_all = !walk.contains(&usize::MAX);
+        let (kind, by) = match random.below(4) {
+            0 | 1 if reaches_all => (0, walk),
+            2 => (1, (0..count).collect()),
+            _ => (2, permutation(&mut random, count)),
+        };
+        let name = format!("mesh {at}, renumbered by {by:?}");
+        let differs = renumbered(tally, &mut random, &lists, &by, &name);
+        kinds.count(&[
+            ("by the walk", kind == 0),
+            (
+                "the identity: another order before the sort",
+                kind == 1 && differs,
+            ),
+            (
+                "at random: another order before the sort",
+                kind == 2 && differs,
+            ),
+            ("a mesh whose walk does not reach all", !reaches_all),
+        ]);
+    }
+    kinds.all_reached(tally);
+    let repeats = tally.left.with_repeats;
+    tally.reached("a list out of order, with a repeat".to_string(), repeats);
 }
 
 /// The rows' reading and the engine, both held to what is known by hand.
@@ -124,7 +210,7 @@ fn refusals(tally: &mut Tally) {
         let name = || format!("{flat:?}, places {order_places}, {queue_places}");
         kinds.count(&kinds_of_starts(&flat, row));
         let Some(reason) = row else {
-            let rust = rust_outcome(&lists_of(&flat), order_places, queue_places);
+            let rust = rust_outcome(&flat.lists().neighbors, order_places, queue_places);
             rows.count(rust.0.err());
             held_to_rust(tally, &ours, &rust, name);
             continue;
@@ -137,12 +223,4 @@ fn refusals(tally: &mut Tally) {
     }
     rows.all_reached(tally, &[2, 3, 17, 18, 4, 8, 13]);
     kinds.all_reached(tally);
-}
-
-/// The lists of a mesh that rows 2 to 4 let pass, 17 and 18 among them.
-pub fn lists_of(mesh: &Flat) -> Vec<Vec<u16>> {
-    mesh.starts
-        .windows(2)
-        .map(|pair| mesh.entries[pair[0] as usize..pair[1] as usize].to_vec())
-        .collect()
 }

@@ -7,10 +7,10 @@ use Rattle.bracket_list.proofs.Geometry.{square-few, Filled, geometry-l
 use Rattle.bracket_list.proofs.list_lattice.Statement.{statement}
 use Rattle.bracket_list.proofs.list_lattice.Tie as tie
 
-left : (c : tie.After-lattice-geometry) → Filled (c .before .before .before .before .before .args .frequency) (c .lattice-geometry .last .1 .1 .0) (c .lattice-geometry .last .1 .1 .1 .0)
+left : (c : tie.After-lattice-geometry) → Filled (c .before .before .before .before .before .before .args .frequency) (c .lattice-geometry .last .1 .1 .0) (c .lattice-geometry .last .1 .1 .1 .0)
 left c =
-    let s = c .before .before .before .before .before in
-    geometry-left (s .args .frequency) (s .pre .0) (s .pre .1) _ (omega arith) (omega arith) (omega arith) (omega arith) (c .lattice-geometry .ensures)
+    let s = c .before .before .before .before .before .before in
+    geometry-left (s .args .frequency) (s .pre .0) (s .pre .1) _ _ (omega arith) (omega arith) (omega arith) (omega arith) (c .lattice-geometry .ensures)
 
 slice-aggregate-lattice-geometry : tie.Need-slice-aggregate-lattice-geometry
 slice-aggregate-lattice-geometry c = search needs
@@ -28,19 +28,19 @@ lattice-geometry-requires : tie.Need-lattice-geometry-requires
 lattice-geometry-requires c κs = search needs
 
 mul-starts-end : tie.Need-mul-starts-end
-mul-starts-end c = let s = c .before .before .before .before .before .before .before .before .before in omega (arith, square-few (s .args .frequency) (s .pre .0) (s .pre .1))
+mul-starts-end c = let s = c .before .before .before .before .before .before .before .before .before .before in omega (arith, square-few (s .args .frequency) (s .pre .0) (s .pre .1))
 
 mul-starts-end-2 : tie.Need-mul-starts-end-2
-mul-starts-end-2 c = let s = c .before .before .before .before .before .before .before .before .before in omega (arith, square-few (s .args .frequency) (s .pre .0) (s .pre .1))
+mul-starts-end-2 c = let s = c .before .before .before .before .before .before .before .before .before .before in omega (arith, square-few (s .args .frequency) (s .pre .0) (s .pre .1))
 
 add-starts-end : tie.Need-add-starts-end
-add-starts-end c = let s = c .before .before .before .before .before .before .before .before .before in omega (arith, square-few (s .args .frequency) (s .pre .0) (s .pre .1))
+add-starts-end c = let s = c .before .before .before .before .before .before .before .before .before .before in omega (arith, square-few (s .args .frequency) (s .pre .0) (s .pre .1))
 
 mul-entries-end : tie.Need-mul-entries-end
-mul-entries-end c = let s = c .before .before .before .before .before .before .before .before .before in omega (arith, square-few (s .args .frequency) (s .pre .0) (s .pre .1))
+mul-entries-end c = let s = c .before .before .before .before .before .before .before .before .before .before in omega (arith, square-few (s .args .frequency) (s .pre .0) (s .pre .1))
 
 mul-entries-end-2 : tie.Need-mul-entries-end-2
-mul-entries-end-2 c = let s = c .before .before .before .before .before .before .before .before .before in omega (arith, square-few (s .args .frequency) (s .pre .0) (s .pre .1))
+mul-entries-end-2 c = let s = c .before .before .before .before .before .before .before .before .before .before in omega (arith, square-few (s .args .frequency) (s .pre .0) (s .pre .1))
 
 array-share-prefix-starts : tie.Need-array-share-prefix-starts
 array-share-prefix-starts c = omega (arith, left (c .before .before .before .before) .starts-room)
@@ -57,7 +57,7 @@ slice-aggregate-list-mesh-2 c = sym (length-take-le _ _ (left (c .before .before
 list-mesh-requires : tie.Need-list-mesh-requires
 list-mesh-requires c κs =
     let g = c .before .before .before .before .before .before .before in
-    let s = g .before .before .before .before .before in
+    let s = g .before .before .before .before .before .before in
     record { least = s .pre .0; greatest = s .pre .1; starts-are = left g .starts-front; entries-are = left g .entries-front }
 
 returns : tie.Need-returns

@@ -1,16 +1,15 @@
 -- `mesh::first_fall` meets its contract: no start up to i falls. Assumes nothing.
 use borrow.Author.Needs.{needs}
-use Prim.Native.Nat.{ℕ, suc, _+_, _-_, _≤_}
+use Prim.Native.Nat.{suc, _+_, _-_, _≤_}
 use native.Mathlib.Omega.{arith}
 use mathlib.Core.Path.{_≡_, refl, sym, ap, _∙_}
 use mathlib.Core.Bool.{true}
-use mathlib.Core.List.{List}
 use lib.ListN.{length, getD}
 use borrow.Author.Tests.{le-leb, lt-leb}
 use Rattle.sequences.specs.Range.{allBelow}
 use Rattle.sequences.proofs.Range.{all-below-at, all-below-intro, all-below-suc}
 use Rattle.mesh.specs.Rows.{notFalling}
-use Rattle.mesh.proofs.Falls.{nowhere-falls, falls-behind}
+use Rattle.mesh.proofs.Falls.{nowhere-falls, falls-behind, pair-of}
 use Rattle.mesh.proofs.first_fall.Statement.{statement}
 use Rattle.mesh.proofs.first_fall.Tie as tie
 
@@ -39,16 +38,12 @@ mul-if1-2 c = search needs
 shared-slice-read-if1-2 : tie.Need-shared-slice-read-if1-2 Inv-loop μ-loop
 shared-slice-read-if1-2 c = search needs
 
--- the start behind the one before i is start i
-at-behind : (starts : List ℕ) (i : ℕ) → 1 ≤ i → getD starts (suc (i - 1)) 0 ≡ getD starts i 0
-at-behind starts i h = ap (λ (k : ℕ). getD starts k 0) (let e : suc (i - 1) ≡ i = omega arith in e)
-
 returns : tie.Need-returns Inv-loop μ-loop
 returns c =
     let l = c .before .before .before .before in
     let starts = l .before .args .starts .now in
     let i = l .loop .i in
-    let e = at-behind starts i (l .loop .inv .0) in
+    let e = pair-of starts i (l .loop .inv .0) in
     let t = c .if1 .taken in
     (let k : i ≡ suc (i - 1) = omega (arith, l .loop .inv .0) in k) ∙ sym (falls-behind starts (i - 1) (omega (arith, l .loop .inv .0)) (l .loop .inv .1) (lt-leb (getD starts (i - 1) 0) (getD starts (suc (i - 1)) 0) (omega arith)))
 
@@ -63,7 +58,7 @@ loop-again c =
     let l = c .before .before .before .before in
     let starts = l .before .args .starts .now in
     let i = l .loop .i in
-    let e = at-behind starts i (l .loop .inv .0) in
+    let e = pair-of starts i (l .loop .inv .0) in
     let t = c .if1 .left in
     (omega arith, ap (allBelow (notFalling starts)) (let k : i + 1 - 1 ≡ i - 1 + 1 = omega (arith, l .loop .inv .0) in k) ∙ all-below-suc (notFalling starts) (i - 1) (l .loop .inv .1) (le-leb (getD starts (i - 1) 0) (getD starts (suc (i - 1)) 0) (omega arith)))
 
