@@ -80,6 +80,36 @@ double any_converted(draw *d) {
     return one_in(d, 2) ? magnitude : -magnitude;
 }
 
+static const uint64_t SIGN = UINT64_C(1) << 63, INFINITE = UINT64_C(2047) << 52;
+
+/* A NaN with any payload; the first fraction bit makes it quiet (IEEE 754-2019, 6.2.1). */
+static uint64_t quiet_nan(draw *d) { return INFINITE | UINT64_C(1) << 51 | any_bits(d) >> 13; }
+
+static uint64_t signaling_nan(draw *d) { return INFINITE | any_bits(d) >> 13 | 1; }
+
+uint64_t operand_bits(draw *d) {
+    uint64_t sign = one_in(d, 2) ? SIGN : 0;
+    switch (below(d, 8)) {
+    case 0:
+    case 1: return sign; /* a zero */
+    case 2: return sign | INFINITE;
+    case 3: return sign | quiet_nan(d);
+    case 4: return sign | signaling_nan(d);
+    case 5: return sign | (1 + below(d, 3)); /* next to zero */
+    case 6: return sign | bits_of(1 + below(d, 2));
+    default: return bits_of(any_double(d));
+    }
+}
+
+uint64_t other_operand_bits(draw *d, uint64_t bits) {
+    switch (below(d, 8)) {
+    case 0: return bits;
+    case 1: return bits ^ SIGN;
+    case 2: return bits + below(d, 5) - 2;
+    default: return operand_bits(d);
+    }
+}
+
 vector any_vector(draw *d) {
     switch (below(d, 4)) {
     case 0: return (vector){any_double(d), any_double(d), any_double(d)};
@@ -116,12 +146,17 @@ static vector about_a_corner(draw *d) {
     return expected_scale(moved, length * (1.5 + 0.5 * signed_unit(d)));
 }
 
+/* From -1 to 1, in halves, with zeros of both signs. */
+static double half(draw *d) {
+    static const double HALVES[] = {-1, -0.5, -0.0, 0, 0.5, 1};
+    return HALVES[below(d, ELEMENTS(HALVES))];
+}
+
 vector any_direction(draw *d) {
-    static const double AXIS[] = {-1, -0.5, -0.0, 0, 0.5, 1};
     switch (below(d, 12)) {
     case 0: return (vector){any_double(d), any_double(d), any_double(d)};
     case 1: return at_an_end(d);
-    case 2: return (vector){AXIS[below(d, 6)], AXIS[below(d, 6)], AXIS[below(d, 6)]};
+    case 2: return (vector){half(d), half(d), half(d)};
     case 3: return about_a_corner(d);
     case 4: return expected_scale(lattice_point(d), ldexp(1, (int)below(d, 41) - 20));
     case 5: return expected_plus(lattice_point(d), lattice_point(d)); /* on an edge's plane */
@@ -180,12 +215,12 @@ double factor_of_side(draw *d, uint32_t side, size_t count) {
 }
 
 double wrong_factor(draw *d) {
-    uint64_t sign = one_in(d, 2) ? UINT64_C(1) << 63 : 0;
+    uint64_t sign = one_in(d, 2) ? SIGN : 0;
     switch (below(d, 10)) {
     case 0: return beside(d, FACTOR_LEAST, false);
     case 1: return beside(d, FACTOR_GREATEST, true);
-    case 2: return from_bits(UINT64_C(0x7ff8000000000000) | sign | any_bits(d) >> 13);
-    case 3: return from_bits(UINT64_C(0x7ff0000000000000) | sign | any_bits(d) >> 13 | 1);
+    case 2: return from_bits(sign | quiet_nan(d));
+    case 3: return from_bits(sign | signaling_nan(d));
     case 4: return sign ? -INFINITY : INFINITY;
     case 5: return sign ? -0.0 : 0.0;
     case 6: return -allowed_factor(d, 1 + below(d, 9));
@@ -209,7 +244,7 @@ settings any_settings(draw *d, size_t count) {
     if (!one_in(d, count > 5000 ? 2 : 4)) /* so large a count is rare */
         return USUAL_PAIR;
     settings pair = {allowed_factor(d, count), below(d, MARGIN_MAX + 1)};
-    uint32_t wrong = below(d, 16);
+    uint32_t wrong = below(d, 12);
     if (wrong < 3)
         pair.factor = wrong_factor(d);
     if (wrong >= 2 && wrong < 5)
@@ -323,6 +358,53 @@ static mesh fan_mesh(draw *d) {
                 append_entry(&m, ring + i);
         }
         append_start(&m);
+    }
+    return m;
+}
+
+static vector turned(vector v, uint32_t times) {
+    for (; times > 0; times--)
+        v = (vector){v.y, v.z, v.x};
+    return v;
+}
+
+static double any_zero(draw *d) { return one_in(d, 2) ? 0.0 : -0.0; }
+
+/* Beside the x axis stands a vertex whose z is `gap`. Either another has a zero there and the same
+ * x and y, and the rest stand below the two in y as a rule, and across the gap in z; or all stand
+ * on a line along z, the first on the gap's side and the rest across it. */
+mesh close_mesh(draw *d, vector *directions, int asked) {
+    mesh m = room();
+    uint32_t count = 3 + below(d, 3), turns = below(d, 3);
+    uint32_t first = one_in(d, 4) ? below(d, count) : 0, last = count - 1;
+    uint32_t second = first != last && one_in(d, 2) ? last : (first + 1 + below(d, last)) % count;
+    bool line = one_in(d, 3);
+    double gap =
+        line ? ldexp(1 + below(d, 64), -1074) : ldexp(8 + below(d, 8), -538 - (int)below(d, 4));
+    gap = one_in(d, 2) ? gap : -gap;
+    vector at = {one_in(d, 4) ? half(d) : 1, one_in(d, 4) ? half(d) : any_zero(d), any_zero(d)};
+    append_start(&m);
+    for (uint32_t v = 0; v < count; v++) {
+        vector other = {half(d), half(d), half(d)};
+        if (line) {
+            other = (vector){at.x, at.y, copysign(signed_unit(d), v == 0 ? gap : -gap)};
+        } else if (one_in(d, 2)) {
+            other.y = one_in(d, 2) ? -1 : -0.5;
+            other.z = copysign(one_in(d, 2) ? 1 : 0.5, -gap);
+        }
+        vector here = v == second ? (vector){at.x, at.y, gap} : v == first && !line ? at : other;
+        if (expected_direction(here)) /* row 5 */
+            here.x = 1;
+        append_position(&m, turned(here, turns));
+        for (uint32_t w = 0; w < count; w++)
+            if (w != v)
+                append_entry(&m, w);
+        append_start(&m);
+    }
+    for (int i = 0; i < asked; i++) {
+        vector towards = {one_in(d, 4) ? half(d) : 1, one_in(d, 4) ? half(d) : -0.125 * below(d, 5),
+                          one_in(d, 4) ? gap * half(d) : any_zero(d)};
+        directions[i] = turned(towards, turns);
     }
     return m;
 }

@@ -28,6 +28,14 @@ double any_double(draw *d);
  * last bit is worth about 1, or any. */
 double any_converted(draw *d);
 
+/* The bits of an operand of a minimum: zeros, infinities and NaNs of both signs, the NaNs quiet and
+ * signaling with any payload, small numbers, and any. Bits, as not every machine passes a signaling
+ * NaN as it is. */
+uint64_t operand_bits(draw *d);
+
+/* Those of another operand beside it: the same, of the other sign, some ulps from it, or any. */
+uint64_t other_operand_bits(draw *d, uint64_t bits);
+
 /* From -1 to 1. */
 double signed_unit(draw *d);
 
@@ -72,6 +80,13 @@ enum {
 /* A mesh in rooms of its own, good till the next call: a lattice, a random mesh, a fan, one at the
  * limit of the count, or any slices. */
 mesh any_mesh(draw *d);
+
+/* A mesh in the same rooms, and so many directions to ask for in it: three to five vertices, each a
+ * neighbour of all others, at small numbers and zeros of both signs. Two of them are so close that
+ * the square of their distance is about the least double above 0, or all stand on a line, one of
+ * them that close to a zero itself. For directions beside these products underflow, and weights are
+ * zeros of both signs at times. */
+mesh close_mesh(draw *d, koshirga_vector3 *directions, int asked);
 
 /* Sorts the lists of a mesh that passes its rows, or doesn't; then makes one pair fall at times. */
 void arrange_lists(draw *d, mesh *m);

@@ -57,13 +57,95 @@ static void call_to_i64(double x) {
     count_conversion(x, answer);
 }
 
+/* Counts what a minimum of two or three operands was found among. */
+static void count_minimum(entry of, const double *operands, int length, double least) {
+    int upper = 0, lower = 0, equal = 0, nans = 0, signaling = 0;
+    bool lower_first = false, nan_before = false, nan_behind = false;
+    bool signaling_before = false, signaling_behind = false;
+    for (int i = 0; i < length; i++) {
+        double x = operands[i];
+        if (isnan(x)) {
+            nan_behind |= nans < i;
+            signaling_behind |= nans < i && is_signaling(x);
+            nans++;
+            signaling += is_signaling(x);
+            continue;
+        }
+        nan_before |= nans > 0;
+        signaling_before |= signaling > 0;
+        equal += x == least;
+        lower_first |= x == 0 && signbit(x) && !upper;
+        lower += x == 0 && signbit(x);
+        upper += x == 0 && !signbit(x);
+    }
+    bool both_zeros = least == 0 && upper && lower;
+    if (both_zeros)
+        count_way(of, lower_first ? WAY_LOWER_ZERO_FIRST : WAY_UPPER_ZERO_FIRST);
+    if (both_zeros && length == 3 && operands[0] == 0 && !lower_first)
+        count_way(of, WAY_UPPER_ZERO_AT_ONCE);
+    if (both_zeros && nans)
+        count_way(of, WAY_NAN_AND_ZEROS);
+    if (!both_zeros && equal > 1)
+        count_way(of, least == 0 ? WAY_LIKE_ZEROS : WAY_EQUAL_NUMBERS);
+    if (isinf(least))
+        count_way(of, least < 0 ? WAY_LOWER_INFINITY : WAY_UPPER_INFINITY);
+    if (nan_before)
+        count_way(of, WAY_NAN_BEFORE);
+    if (nan_behind)
+        count_way(of, WAY_NAN_BEHIND);
+    if (signaling_before)
+        count_way(of, WAY_SIGNALING_BEFORE);
+    if (signaling_behind)
+        count_way(of, WAY_SIGNALING_BEHIND);
+    if (nans == length)
+        count_way(of, signaling == length ? WAY_ALL_SIGNALING : WAY_NO_NUMBER);
+}
+
+/* An argument of these bits. Where doubles were passed by a unit that quiets NaNs, as the x87 does,
+ * a signaling one wouldn't reach the call. */
+static double passed(entry of, uint64_t bits) {
+    double x = from_bits(bits);
+    hold(of, bits_of(x) == bits, "an argument keeps its bits");
+    return x;
+}
+
+static uint64_t call_rank(double x) {
+    uint64_t rank = koshirga_rank(x);
+    hold(ENTRY_rank, expected_rank(x) == rank, "the result");
+    count(ENTRY_rank, 0);
+    return rank;
+}
+
+static double call_minimum_number(double x, double y) {
+    const double operands[2] = {x, y};
+    entry of = ENTRY_minimum_number;
+    double least = koshirga_minimum_number(x, y);
+    hold(of, same(expected_minimum_number(x, y), least), "the result");
+    hold(of, isnan(x) && isnan(y) ? is_quiet(least) : !isnan(least), "a number or a quiet NaN");
+    hold(of, isnan(least) || same(least, x) || same(least, y), "one of the operands");
+    count(of, 0);
+    count_minimum(of, operands, 2, least);
+    return least;
+}
+
+/* Drawn operands in both orders. */
+static void ordered_operands(draw *d) {
+    entry of = ENTRY_minimum_number;
+    uint64_t p = operand_bits(d), q = other_operand_bits(d, p);
+    double x = passed(of, p), y = passed(of, q);
+    double least = call_minimum_number(x, y);
+    hold(of, same(least, call_minimum_number(y, x)), "the same in either order");
+    uint64_t rank_x = call_rank(x), rank_y = call_rank(y); /* that of a NaN is the greatest */
+    hold(of, call_rank(least) == (rank_x < rank_y ? rank_x : rank_y), "the lesser rank");
+}
+
 static void arithmetic(draw *d) {
     double x = any_double(d), y = any_double(d), z = any_double(d);
     uint64_t p = bits_of(any_double(d)), q = one_in(d, 8) ? p : any_bits(d);
     if (one_in(d, 2)) /* a sum that cancels, to some ulps */
         z = from_bits(bits_of(-(x * y)) + below(d, 5) - 2);
     COMPARE(total_cmp, EQUAL, expected_total_cmp(p, q), p, q);
-    COMPARE(rank, EQUAL, expected_rank(x), x);
+    call_rank(x);
     COMPARE(floor, same, floor(x), x);
     COMPARE(ceil, same, ceil(x), x);
     call_to_i64(any_converted(d));
@@ -96,6 +178,37 @@ static bool same_weights(koshirga_weights a, koshirga_weights b) {
     return same(a.u, b.u) && same(a.v, b.v) && same(a.w, b.w);
 }
 
+static double call_least_weight(double u, double v, double w) {
+    const double all[3] = {u, v, w};
+    entry of = ENTRY_least_weight;
+    koshirga_weights weights = {u, v, w};
+    double least = koshirga_least_weight(weights), earlier = earlier_least(weights);
+    hold(of, same(expected_least(weights), least), "the result");
+    hold(of, isnan(earlier) ? is_quiet(least) : least == earlier,
+         "a quiet NaN, or document 01's least but for a zero's sign");
+    hold(of, isnan(least) || same(least, u) || same(least, v) || same(least, w),
+         "one of the weights");
+    hold(of, !(u < least) && !(v < least) && !(w < least), "no weight below the least");
+    count(of, 0);
+    count_minimum(of, all, 3, least);
+    return least;
+}
+
+/* Drawn weights in each order. */
+static void ordered_weights(draw *d) {
+    static const uint8_t ORDERS[6][3] = {{0, 1, 2}, {0, 2, 1}, {1, 0, 2},
+                                         {1, 2, 0}, {2, 0, 1}, {2, 1, 0}};
+    uint64_t bits = operand_bits(d);
+    double three[3], leasts[6];
+    for (int i = 0; i < 3; i++)
+        three[i] = passed(ENTRY_least_weight, i ? other_operand_bits(d, bits) : bits);
+    for (int i = 0; i < 6; i++) {
+        const uint8_t *o = ORDERS[i];
+        leasts[i] = call_least_weight(three[o[0]], three[o[1]], three[o[2]]);
+        hold(ENTRY_least_weight, same(leasts[0], leasts[i]), "the same in any order");
+    }
+}
+
 static void weights(draw *d) {
     vector a = any_vector(d), b = any_vector(d), c = any_vector(d), p = any_vector(d);
     if (one_in(d, 8))
@@ -106,11 +219,16 @@ static void weights(draw *d) {
         p = expected_plus(a, expected_scale(expected_minus(b, a), 1.5 * signed_unit(d)));
         p = expected_plus(p, expected_scale(expected_minus(c, a), 1.5 * signed_unit(d)));
     }
+    if (one_in(d, 4)) {
+        mesh close = close_mesh(d, &p, 1);
+        a = position_of(close.positions, 0);
+        b = position_of(close.positions, 1);
+        c = position_of(close.positions, 2);
+        p = expected_normalize(p);
+    }
     koshirga_weights found = expected_weights(p, a, b, c);
     COMPARE(projected_barycentric, same_weights, found, p, a, b, c);
-    if (one_in(d, 2))
-        found = (koshirga_weights){any_double(d), any_double(d), any_double(d)};
-    COMPARE(least_weight, same, expected_least(found), found);
+    call_least_weight(found.u, found.v, found.w);
 }
 
 /* ---- analytic location */
@@ -960,6 +1078,26 @@ static void call_nearest(const query *q, const query *e, vector v, bool structs)
     count_part(of, e, v, answer.refusal, answer.index);
 }
 
+/* Counts what the least weight of a located triangle was found among, and beside. */
+static void count_located(entry of, const query *e, vector v, const koshirga_located_answer *at) {
+    const double weights[3] = {at->u, at->v, at->w};
+    const grid *g = &e->grid;
+    count_minimum(of, weights, 3, at->least);
+    if (at->least != 0)
+        return;
+    uint32_t nearest = nearest_of(e, v).id;
+    bool other_zero = false;
+    for (size_t i = g->triangle_starts[nearest]; i < g->triangle_starts[nearest + 1]; i++) {
+        const uint16_t *t = g->triples + 3 * i;
+        double least = expected_least(
+            expected_weights(expected_normalize(v), position_of(e->positions, t[0]),
+                             position_of(e->positions, t[1]), position_of(e->positions, t[2])));
+        other_zero |= least == 0 && !signbit(least) != !signbit(at->least);
+    }
+    if (other_zero)
+        count_way(of, signbit(at->least) ? WAY_LOWER_ZERO_KEPT : WAY_UPPER_ZERO_KEPT);
+}
+
 static void call_locate(const query *q, const query *e, vector v, bool structs) {
     const grid *g = &q->grid;
     koshirga_grid as_struct = grid_struct(q);
@@ -985,10 +1123,14 @@ static void call_locate(const query *q, const query *e, vector v, bool structs) 
          "ids below the count");
     hold(of, at.refusal || (!(at.u < at.least) && !(at.v < at.least) && !(at.w < at.least)),
          "no weight below the least");
+    hold(of, at.refusal || at.least == earlier_least((koshirga_weights){at.u, at.v, at.w}),
+         "document 01's least but for a zero's sign");
     hold_query(of);
     count(of, at.refusal);
     count_record(of, e, v, at.refusal);
     count_part(of, e, v, at.refusal, at.index);
+    if (!at.refusal)
+        count_located(of, e, v, &at);
 }
 
 /* Both queries in one way, so that the archive's two get the same inputs. */
@@ -1201,6 +1343,17 @@ static void meshes(draw *d) {
     }
 }
 
+static void close_meshes(draw *d) {
+    vector directions[6];
+    mesh m = close_mesh(d, directions, 6);
+    query q, e;
+    if (!call_build_grid(d, &m, &q))
+        return;
+    query lent_query = lend_query(d, &q, &e);
+    for (int i = 0; i < 6; i++)
+        call_both(d, &lent_query, &e, directions[i]);
+}
+
 static void repeat(void (*scenario)(draw *d), int times, draw *d) {
     for (int i = 0; i < times; i++)
         scenario(d);
@@ -1223,10 +1376,10 @@ int LLVMFuzzerInitialize(int *argc, char ***argv) {
 
 int LLVMFuzzerTestOneInput(const uint8_t *bytes, size_t length) {
     draw d = draw_from(bytes, length);
-    switch (below(&d, 16)) {
-    case 0: repeat(arithmetic, 4, &d); break;
+    switch (below(&d, 21)) {
+    case 0: repeat(arithmetic, 3, &d); break;
     case 1: repeat(vectors, 4, &d); break;
-    case 2: repeat(weights, 8, &d); break;
+    case 2: repeat(weights, 6, &d); break;
     case 3: repeat(choose_face, 8, &d); break;
     case 4:
     case 5:
@@ -1234,6 +1387,12 @@ int LLVMFuzzerTestOneInput(const uint8_t *bytes, size_t length) {
     case 7: repeat(call_lattice, 3, &d); break;
     case 8:
     case 9: any_grid(&d); break;
+    case 10:
+    case 11: close_meshes(&d); break;
+    case 12:
+        repeat(ordered_operands, 2, &d);
+        repeat(ordered_weights, 2, &d);
+        break;
     default: meshes(&d); break;
     }
     tally_input();

@@ -1,6 +1,7 @@
-/* Document 01, as change requests W-207 to W-210 leave it, read a second time, in C. expected_NAME
- * says what koshirga_NAME returns, and writes what it leaves into the slices that it is given, and
- * into the mark. It follows the text of these papers and nothing of the proved code. */
+/* Document 01, as change requests W-201 and W-207 to W-210 leave it, read a second time, in C.
+ * expected_NAME says what koshirga_NAME returns, and writes what it leaves into the slices that it
+ * is given, and into the mark. It follows the text of these papers and nothing of the proved code.
+ */
 #ifndef READING_H
 #define READING_H
 
@@ -78,11 +79,19 @@
  *  68. mark_ascending tests row 5
  *  69. mark_ascending gives no index
  *  70. mark_ascending sorts the lists
- *  71. ids above 32,767 stand before all others, in mark_ascending and in sorted lists */
+ *  71. ids above 32,767 stand before all others, in mark_ascending and in sorted lists
+ *  72. in minimum_number the earlier of equals stays
+ *  73. in least_weight the earlier of equals stays, as in document 01 before W-201
+ *  74. in a location the earlier of equal weights is the least, as before W-201
+ *  75. +0 lies below -0 in every minimum
+ *  76. a NaN beside a number makes a minimum NaN, as in minimum (IEEE 754-2019, 9.6)
+ *  77. a signaling NaN does so, a quiet one doesn't, as in minNum (IEEE 754-2008, 5.3.1)
+ *  78. the third weight is left out of every least
+ *  79. a least of +0 exceeds one of -0, and a later triangle is kept for it */
 #ifndef MISREAD
 #define MISREAD 0
 #endif
-enum { MISREADINGS = 71 };
+enum { MISREADINGS = 79 };
 
 enum { FREQUENCY_MAX = 80, VERTEX_MAX = 65536, LIST_MAX = 32, MARGIN_MAX = 3, ROWS = 20 };
 
@@ -141,8 +150,13 @@ bool same(double x, double y);
 uint64_t bits_of(double x);
 double from_bits(uint64_t bits);
 
+/* The two kinds of NaN (IEEE 754-2019, 6.2.1). */
+bool is_quiet(double x);
+bool is_signaling(double x);
+
 int32_t expected_total_cmp(uint64_t x, uint64_t y);
 uint64_t expected_rank(double x);
+double expected_minimum_number(double x, double y);
 koshirga_conversion_answer expected_to_i64(double x);
 
 double expected_dot(koshirga_vector3 a, koshirga_vector3 b);
@@ -159,6 +173,10 @@ koshirga_weights expected_weights(koshirga_vector3 p, koshirga_vector3 a, koshir
                                   koshirga_vector3 c);
 double expected_least(koshirga_weights weights);
 
+/* The least by document 01, as it was before W-201: of equal weights the earlier, so that a zero
+ * has the sign of the first one. */
+double earlier_least(koshirga_weights weights);
+
 koshirga_face_answer expected_choose_face(const bool signs[3], const bool outside[3]);
 koshirga_analytic_answer expected_analytic_locate(uint32_t frequency, const uint16_t *ids,
                                                   size_t ids_length, koshirga_vector3 direction);
@@ -171,6 +189,9 @@ const lattice *lattice_of(uint32_t frequency);
 /* filled: positions, starts and entries; the mark and ids beside them. */
 uint32_t expected_lattice(uint32_t frequency, mesh *filled, bool *lists_ascend, uint16_t *ids,
                           size_t ids_length);
+
+/* The position of a vertex. */
+koshirga_vector3 position_of(const double *positions, size_t v);
 
 /* The first of rows 2, 3 (length), 17, 18, 3 (a list over 32) and 4 that holds, then row 5 where it
  * is asked for; 0 where none does. With row 18 the place of the start that falls, else 0. */

@@ -16,23 +16,29 @@ static const char *const NAMES[ENTRIES] = {ENTRY_POINTS(NAME)};
 /* The calls whose ways are counted, as columns. Which of them can meet a way: a bit each, the first
  * the lowest. */
 enum {
-    COLUMNS = 8,
-    CONVERSION = 1,
-    LATTICE = 2,
-    WALK = 4,
-    RENUMBERING = 8,
-    MARKING = 16,
-    BUILDER = 32,
-    LOCATION = 128,
+    COLUMNS = 10,
+    MINIMUM = 1,
+    CONVERSION = 2,
+    WEIGHTS = 4,
+    LATTICE = 8,
+    WALK = 16,
+    RENUMBERING = 32,
+    MARKING = 64,
+    BUILDER = 128,
+    LOCATION = 512,
     WHOLE = WALK | RENUMBERING | MARKING | BUILDER,
-    QUERIES = 64 | LOCATION,
+    QUERIES = 256 | LOCATION,
     PAIRS = BUILDER | QUERIES,
     ENDS = CONVERSION | BUILDER,
-    MARKS = LATTICE | RENUMBERING | MARKING
+    MARKS = LATTICE | RENUMBERING | MARKING,
+    DRAWN = MINIMUM | WEIGHTS,
+    LEASTS = WEIGHTS | LOCATION,
+    MINIMA = DRAWN | LOCATION
 };
-static const entry WITH_WAYS[COLUMNS] = {ENTRY_to_i64,       ENTRY_lattice,        ENTRY_walk,
-                                         ENTRY_renumber,     ENTRY_mark_ascending, ENTRY_build_grid,
-                                         ENTRY_grid_nearest, ENTRY_grid_locate};
+static const entry WITH_WAYS[COLUMNS] = {ENTRY_minimum_number, ENTRY_to_i64,     ENTRY_least_weight,
+                                         ENTRY_lattice,        ENTRY_walk,       ENTRY_renumber,
+                                         ENTRY_mark_ascending, ENTRY_build_grid, ENTRY_grid_nearest,
+                                         ENTRY_grid_locate};
 #define WAY(name, calls, text) {calls, text},
 static const struct {
     unsigned calls;
@@ -204,7 +210,8 @@ static void print_tables(double seconds) {
     print_ways("starts refused, by row", WHOLE | QUERIES, 0, WAY_PAIRS);
     print_ways("pairs, by row (0: accepted)", PAIRS, WAY_PAIRS, WAY_CONVERSIONS);
     print_ways("conversions", ENDS, WAY_CONVERSIONS, WAY_MARKS);
-    print_ways("the mark (0: accepted), and lists", MARKS, WAY_MARKS, WAY_COUNT);
+    print_ways("the mark (0: accepted), and lists", MARKS, WAY_MARKS, WAY_MINIMA);
+    print_ways("minima", MINIMA, WAY_MINIMA, WAY_COUNT);
     int frequencies = 0;
     for (int n = 1; n <= FREQUENCY_MAX; n++)
         frequencies += built[n];

@@ -9,9 +9,9 @@
 
 /* Every function of koshirga.h, in its order. */
 #define ENTRY_POINTS(X)                                                                           \
-    X(total_cmp) X(rank) X(floor) X(ceil) X(to_i64) X(mul_add) X(sqrt) X(dot) X(cross)            \
-    X(minus) X(plus) X(scale) X(divide) X(norm_squared) X(norm) X(normalize) X(direction)         \
-    X(projected_barycentric) X(least_weight) X(walk) X(renumber) X(mark_ascending)                \
+    X(total_cmp) X(rank) X(minimum_number) X(floor) X(ceil) X(to_i64) X(mul_add) X(sqrt) X(dot)   \
+    X(cross) X(minus) X(plus) X(scale) X(divide) X(norm_squared) X(norm) X(normalize)             \
+    X(direction) X(projected_barycentric) X(least_weight) X(walk) X(renumber) X(mark_ascending)   \
     X(choose_face) X(analytic_locate) X(analytic_nearest) X(lattice) X(build_grid)                \
     X(grid_nearest) X(grid_locate) X(mark_ascending_of) X(walk_mesh) X(build_grid_of)             \
     X(nearest_in) X(locate_in)
@@ -137,14 +137,41 @@ typedef enum entry { ENTRY_POINTS(ENTRY) ENTRIES } entry;
     X(MAPPED_APART, RENUMBERING, "mapped: repeats that stand apart")                               \
     X(MAPPED_SAME, RENUMBERING, "mapped by the identity: a list falls")
 
-#define WAYS(X) START_WAYS(X) PAIR_WAYS(X) CONVERSION_WAYS(X) MARK_WAYS(X)
+/* The same for minima: of two operands in minimum_number, of three weights in least_weight and in
+ * an accepted location. A number is what isn't a NaN. In the first way a least is -0 by W-201, and
+ * was +0 before it. In the last two another triangle at the vertex, later than the one that is
+ * kept, has a zero of the other sign as its least. */
+#define MINIMUM_WAYS(X)                                                                            \
+    X(UPPER_ZERO_FIRST, MINIMA, "a zero: +0 stands before -0")                                     \
+    X(UPPER_ZERO_AT_ONCE, LEASTS, "a zero: +0 is the first weight, then -0")                       \
+    X(LOWER_ZERO_FIRST, MINIMA, "a zero: -0 stands before +0")                                     \
+    X(LIKE_ZEROS, MINIMA, "a zero: several, of one sign")                                          \
+    X(EQUAL_NUMBERS, MINIMA, "equal numbers that aren't zeros")                                    \
+    X(LOWER_INFINITY, DRAWN, "minus infinity")                                                     \
+    X(UPPER_INFINITY, DRAWN, "plus infinity: no lesser number")                                    \
+    X(NAN_BEFORE, MINIMA, "a NaN before a number")                                                 \
+    X(NAN_BEHIND, MINIMA, "a NaN behind a number")                                                 \
+    X(SIGNALING_BEFORE, DRAWN, "a signaling NaN before a number")                                  \
+    X(SIGNALING_BEHIND, DRAWN, "a signaling NaN behind a number")                                  \
+    X(NAN_AND_ZEROS, WEIGHTS, "a NaN, and zeros of both signs")                                    \
+    X(NO_NUMBER, DRAWN, "no number: a quiet NaN among them")                                       \
+    X(ALL_SIGNALING, DRAWN, "no number: all are signaling")                                        \
+    X(LOWER_ZERO_KEPT, LOCATION, "-0 is kept, a later triangle has +0")                            \
+    X(UPPER_ZERO_KEPT, LOCATION, "+0 is kept, a later triangle has -0")
+
+#define WAYS(X) START_WAYS(X) PAIR_WAYS(X) CONVERSION_WAYS(X) MARK_WAYS(X) MINIMUM_WAYS(X)
 
 #define WAY(name, calls, text) WAY_##name,
 typedef enum way { WAYS(WAY) WAY_COUNT } way;
 #undef WAY
 
-/* The first way of the pairs, of the conversions and of the marks. */
-enum { WAY_PAIRS = WAY_FACTOR_NAN, WAY_CONVERSIONS = WAY_KEPT, WAY_MARKS = WAY_MARK_SET };
+/* The first way of the pairs, of the conversions, of the marks and of the minima. */
+enum {
+    WAY_PAIRS = WAY_FACTOR_NAN,
+    WAY_CONVERSIONS = WAY_KEPT,
+    WAY_MARKS = WAY_MARK_SET,
+    WAY_MINIMA = WAY_UPPER_ZERO_FIRST
+};
 
 /* The call was answered by this row; 0: accepted. */
 void count(entry of, uint32_t row);

@@ -52,7 +52,7 @@
 #include <stdint.h>
 
 #define KOSHIRGA_VERSION_MAJOR 0
-#define KOSHIRGA_VERSION_MINOR 5
+#define KOSHIRGA_VERSION_MINOR 6
 #define KOSHIRGA_VERSION_PATCH 0
 
 #ifdef __cplusplus
@@ -132,6 +132,13 @@ int32_t koshirga_total_cmp(uint64_t x, uint64_t y);
 /* The place of x in the total order (IEEE 754-2019, 5.10) of all 2^64 bit patterns, counted from 0.
  * Every NaN has one place, that of the pattern 0x7ff8000000000000. */
 uint64_t koshirga_rank(double x);
+
+/* The lesser of two numbers: minimumNumber (IEEE 754-2019, 9.6). x where x < y, and y where y < x;
+ * of zeros of different sign -0, whichever comes first, as -0 compares less than +0 here; x where
+ * both are the same. Where one is a NaN, quiet or signaling, the other is the result, and where
+ * both are it is a NaN. That this one is quiet, as the clause asks, was seen in runs and isn't
+ * proved. Commutative: x and y in either order have the same bits, but for those of a NaN. */
+double koshirga_minimum_number(double x, double y);
 
 /* The greatest whole number not above x: roundToIntegralTowardNegative (IEEE 754-2019, 5.9). An
  * infinity stays (5.9), and a zero result has the sign of x (6.3). */
@@ -230,8 +237,9 @@ typedef struct koshirga_weights {
 koshirga_weights koshirga_projected_barycentric(koshirga_vector3 p, koshirga_vector3 a,
                                                 koshirga_vector3 b, koshirga_vector3 c);
 
-/* The least weight: NaN is skipped, and the earlier of equals stays (IEEE 754-2019, 5.11). NaN
- * where all three are. */
+/* The least weight: koshirga_minimum_number of u and v, and of that and w (IEEE 754-2019, 9.6). The
+ * three in any order have the same least: NaN is skipped, and -0 lies below +0. NaN where all three
+ * are. */
 double koshirga_least_weight(koshirga_weights weights);
 
 /* ---- walk, renumbering and mark */
@@ -392,7 +400,7 @@ typedef struct koshirga_nearest_answer {
 
 typedef struct koshirga_located_answer {
     uint32_t refusal, first, second, third;
-    double u, v, w, least; /* the weights of first, second and third, and the least of them */
+    double u, v, w, least; /* the weights of first, second and third; their koshirga_least_weight */
     size_t index;          /* that of row 18: the direction's cell + 1, or the nearest vertex + 1 */
 } koshirga_located_answer;
 
@@ -417,9 +425,11 @@ koshirga_nearest_answer koshirga_grid_nearest(const double *positions, size_t po
 
 /* The triangle at the nearest vertex whose least weight is the greatest, the first of equals. The
  * weights are those of koshirga_projected_barycentric for the normalised direction, rounded as
- * there (IEEE 754-2019, 5.4.1 and 4.3.1). Rows as above, then at the nearest vertex 18, 3, 4, 12.
- * Which start list falls, 18 doesn't say: cell_starts where koshirga_grid_nearest is refused too,
- * and triangle_starts where it isn't. */
+ * there (IEEE 754-2019, 5.4.1 and 4.3.1), and the least is that of koshirga_least_weight (9.6).
+ * Leasts are compared by > (5.11), where -0 and +0 are equal: which triangle is kept doesn't depend
+ * on the sign of a zero least, as is proved. Rows as above, then at the nearest vertex 18, 3, 4,
+ * 12. Which start list falls, 18 doesn't say: cell_starts where koshirga_grid_nearest is refused
+ * too, and triangle_starts where it isn't. */
 koshirga_located_answer koshirga_grid_locate(const double *positions, size_t positions_length,
                                              double factor, uint32_t margin, uint32_t side,
                                              const uint32_t *cell_starts,

@@ -1,7 +1,9 @@
-/* Compares koshirga_mul_add and koshirga_sqrt with MPFR, rounded to binary64.
+/* Compares koshirga_mul_add, koshirga_minimum_number and koshirga_sqrt with MPFR, rounded to
+ * binary64.
  *
  * Standard input, from `compare cases`: for each class of cases a line with the number of operands
- * (3: mul_add, 1: sqrt), the number of cases and the name, then the operands as they lie in memory.
+ * (3: mul_add, 2: minimum_number, 1: sqrt), the number of cases and the name, then the operands as
+ * they lie in memory.
  * Each class has its line on standard output; the sums have theirs in the file that the argument
  * names, as `compare` writes it.
  * Exit status: 0 no difference; 1 some; 2 input that can't be read, or a file that can't be written.
@@ -50,13 +52,17 @@ static int same(double x, double y) {
 }
 
 /* The exact value, rounded once: subnormalize rounds what mpfr_fma and mpfr_sqrt have rounded to 53
- * digits and knows from `inexact` on which side of the exact value that lies. */
+ * digits and knows from `inexact` on which side of the exact value that lies. Of zeros of different
+ * signs mpfr_min gives -0, and of a number and a NaN the number, as minimumNumber does (IEEE
+ * 754-2019, 9.6). */
 static double by_mpfr(int operands, const double *x) {
     int inexact;
     for (int i = 0; i < operands; i++)
         mpfr_set_d(operand[i], x[i], MPFR_RNDN);
     if (operands == 3)
         inexact = mpfr_fma(result, operand[0], operand[1], operand[2], MPFR_RNDN);
+    else if (operands == 2)
+        inexact = mpfr_min(result, operand[0], operand[1], MPFR_RNDN);
     else
         inexact = mpfr_sqrt(result, operand[0], MPFR_RNDN);
     mpfr_subnormalize(result, inexact, MPFR_RNDN);
@@ -64,7 +70,9 @@ static double by_mpfr(int operands, const double *x) {
 }
 
 static double by_koshirga(int operands, const double *x) {
-    return operands == 3 ? koshirga_mul_add(x[0], x[1], x[2]) : koshirga_sqrt(x[0]);
+    if (operands == 3)
+        return koshirga_mul_add(x[0], x[1], x[2]);
+    return operands == 2 ? koshirga_minimum_number(x[0], x[1]) : koshirga_sqrt(x[0]);
 }
 
 static void describe(int operands, const double *x, double ours, double mpfr) {
@@ -87,7 +95,7 @@ static int read_head(class_head *head) {
         return 0;
     line[strcspn(line, "\n")] = '\0';
     if (sscanf(line, "%d %" SCNu64 " %n", &head->operands, &head->count, &name_at) != 2
-        || (head->operands != 1 && head->operands != 3) || strlen(line + name_at) >= NAME)
+        || head->operands < 1 || head->operands > OPERANDS || strlen(line + name_at) >= NAME)
         unreadable();
     strcpy(head->name, line + name_at);
     return 1;

@@ -71,6 +71,7 @@ pub struct LocatedAnswer {
 unsafe extern "C" {
     pub safe fn koshirga_total_cmp(x: u64, y: u64) -> i32;
     pub safe fn koshirga_rank(x: f64) -> u64;
+    pub safe fn koshirga_minimum_number(x: f64, y: f64) -> f64;
     pub safe fn koshirga_floor(x: f64) -> f64;
     pub safe fn koshirga_ceil(x: f64) -> f64;
     pub safe fn koshirga_to_i64(x: f64) -> ConversionAnswer;

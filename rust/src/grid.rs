@@ -64,7 +64,7 @@ pub struct Located {
     pub triple: [u32; 3],
     /// The corners' weights.
     pub weights: Weights,
-    /// The least weight.
+    /// The least weight: [`least_weight`](crate::least_weight) of the three (IEEE 754-2019, 9.6).
     pub least: f64,
 }
 
@@ -132,6 +132,9 @@ impl Grid<'_> {
     }
 
     /// The triangle at the nearest vertex whose least weight is the greatest, the first of equals.
+    /// Leasts are compared by `>` (IEEE 754-2019, 5.11), where −0 and +0 are equal: which triangle
+    /// is kept doesn't depend on the sign of a zero least, as is proved.
+    ///
     /// Rows as for the nearest vertex, then at that vertex 18, 3, 4 and 12. Which start list falls,
     /// 18 doesn't say: the cell starts where [`Grid::find_nearest_vertex`] is refused too, and the
     /// triangle starts where it isn't.

@@ -34,7 +34,9 @@ mod vector;
 mod weights;
 
 pub use analytic::{choose_face, AnalyticLattice, Outside, Signs};
-pub use binary64::{ceil, floor, mul_add, rank, sqrt, to_i64, total_cmp, Conversion, Converted};
+pub use binary64::{
+    ceil, floor, minimum_number, mul_add, rank, sqrt, to_i64, total_cmp, Conversion, Converted,
+};
 pub use grid::{build_grid, Built, FaceGrid, Grid, GridMut, Located, Nearest, Settings};
 pub use lattice::{lattice_geometry, LatticeGeometry};
 pub use mesh::{

@@ -30,8 +30,16 @@ pub fn projected_barycentric(p: Vector3, a: Vector3, b: Vector3, c: Vector3) -> 
     ffi::koshirga_projected_barycentric(p, a, b, c)
 }
 
-/// The least weight. A NaN is skipped, and the earlier of equals stays (IEEE 754-2019, 5.11). NaN
-/// where all three are.
+/// The least weight: [`minimum_number`](crate::minimum_number) of the first two, and of that and
+/// the third (IEEE 754-2019, 9.6). The three in any order have the same least: a NaN is skipped,
+/// and −0 lies below +0. NaN where all three are.
+///
+/// ```
+/// use koshirga::{least_weight, Weights};
+///
+/// let least = least_weight(Weights { u: 1.0, v: 0.0, w: -0.0 });
+/// assert!(least == 0.0 && least.is_sign_negative());
+/// ```
 pub fn least_weight(weights: Weights) -> f64 {
     ffi::koshirga_least_weight(weights)
 }
@@ -62,10 +70,58 @@ mod tests {
 
     #[test]
     fn least_of_three() {
+        const NAN: f64 = f64::NAN;
         let least = |u, v, w| least_weight(Weights { u, v, w });
-        assert_eq!(least(3.0, 1.0, 2.0), 1.0);
-        assert_eq!(least(f64::NAN, 2.0, f64::NAN), 2.0);
-        assert!(least(0.0, -0.0, 1.0).is_sign_positive());
-        assert!(least(f64::NAN, f64::NAN, f64::NAN).is_nan());
+        for (u, v, w, expected) in [
+            (1.0, 2.0, 3.0, 1.0),
+            (3.0, 1.0, 2.0, 1.0),
+            (0.0, -0.0, 1.0, -0.0),
+            (-0.0, 0.0, 1.0, -0.0),
+            (0.0, 0.0, -0.0, -0.0),
+            (0.0, 0.0, 0.0, 0.0),
+            (NAN, 0.0, -0.0, -0.0),
+            (0.0, NAN, -0.0, -0.0),
+            (NAN, 0.0, 0.0, 0.0),
+            (NAN, 2.0, NAN, 2.0),
+        ] {
+            let ours = least(u, v, w);
+            assert_eq!(ours.to_bits(), f64::to_bits(expected), "{u}, {v}, {w}");
+        }
+        assert!(least(NAN, NAN, NAN).is_nan());
+    }
+
+    /// Every three of the table, so that every order of them is there: the one that stands first.
+    /// NaNs stand last, and three of them have a NaN.
+    #[test]
+    fn least_in_any_order() {
+        const NUMBERS: usize = 10;
+        let table = [
+            f64::NEG_INFINITY,
+            f64::MIN,
+            -1.0,
+            -f64::from_bits(1),
+            -0.0,
+            0.0,
+            f64::from_bits(1),
+            1.0,
+            f64::MAX,
+            f64::INFINITY,
+            f64::NAN,
+            -f64::NAN,
+            f64::from_bits(0x7ff0_0000_0000_0001), // signaling
+        ];
+        for (i, &u) in table.iter().enumerate() {
+            for (j, &v) in table.iter().enumerate() {
+                for (k, &w) in table.iter().enumerate() {
+                    let least = least_weight(Weights { u, v, w });
+                    let first = i.min(j).min(k);
+                    if first < NUMBERS {
+                        assert_eq!(least.to_bits(), table[first].to_bits(), "{u}, {v}, {w}");
+                    } else {
+                        assert!(least.is_nan(), "{u}, {v}, {w}: {least}");
+                    }
+                }
+            }
+        }
     }
 }

@@ -114,7 +114,7 @@ fn weights_are_those_of_the_triangle() {
             let [a, b, c] = located.triple.map(|id| mesh.position(id as usize));
             let weights = projected_barycentric(direction.normalize(), a, b, c);
             assert_eq!(located.weights, weights);
-            assert_eq!(located.least, least_weight(weights));
+            assert_eq!(located.least.to_bits(), least_weight(weights).to_bits());
             assert!((weights.u + weights.v + weights.w - 1.0).abs() < 1e-12);
         }
     }

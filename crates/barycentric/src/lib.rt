@@ -1,7 +1,8 @@
 // Barycentric weights of a point in a triangle, and the least of them.
 ghost use mathlib.Core.Path.{_≡_};
-ghost use Rattle.barycentric.specs.Weights.{weights, lesser, leastWeight};
+ghost use Rattle.barycentric.specs.Weights.{weights, leastWeight};
 ghost use Rattle.barycentric.specs.Ericson.{projectedBarycentric};
+use binary64::minimum_number;
 use fused::mul_add;
 use fused::product_at_most;
 use vector::Vector3;
@@ -78,19 +79,9 @@ pub fn projected_barycentric(p: Vector3, a: Vector3, b: Vector3, c: Vector3) -> 
     Weights::new(1.0 - v - w, v, w)
 }
 
-// The lesser of two weights. A NaN is skipped, and the earlier of equals stays.
-pub fn lesser_weight(earlier: f64, later: f64) -> f64
-    ensures { λ r. ⌜ r ≡ lesser earlier later ⌝ }
-{
-    if earlier != earlier {
-        return later;
-    }
-    if later < earlier { later } else { earlier }
-}
-
 // The least of three weights, NaN only where all three are.
 pub fn least_weight(t: Weights) -> f64
     ensures { λ r. ⌜ r ≡ leastWeight t ⌝ }
 {
-    lesser_weight(lesser_weight(t.u, t.v), t.w)
+    minimum_number(minimum_number(t.u, t.v), t.w)
 }

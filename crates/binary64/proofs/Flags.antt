@@ -1,6 +1,6 @@
--- Two tests as one: either of them, or both. Assumes nothing.
+-- Two tests as one: either of them, or both; two that answer the same. Assumes nothing.
 use mathlib.Core.Path.{_≡_, refl}
-use mathlib.Core.Bool.{Bool, true, false, _&&_, _||_, false≢true}
+use mathlib.Core.Bool.{Bool, true, false, _&&_, _||_, Bool·beq, false≢true}
 use lib.Dec.{T}
 
 pub or-left : (p q : Bool) → T p → T (p || q)
@@ -22,3 +22,9 @@ or-either false q e left right = right e
 pub and-both : (p q : Bool) → (p && q) ≡ true → (p ≡ true) × (q ≡ true)
 and-both true q e = (refl, e)
 and-both false q e = absurd (false≢true e)
+
+pub signs-equal : (s t : Bool) → Bool·beq s t ≡ true → s ≡ t
+signs-equal true true e = refl
+signs-equal false false e = refl
+signs-equal true false e = absurd (false≢true e)
+signs-equal false true e = absurd (false≢true e)

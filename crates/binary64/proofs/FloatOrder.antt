@@ -7,7 +7,7 @@ use native.Mathlib.Nat.{le-of-lt, eq-or-lt-of-le}
 use native.Mathlib.Omega.{arith}
 use borrow.Author.Tests.{ltb-true, ltb-false, lt-ltb, le-ltb, eq-eqb, ne-eqb}
 use lib.Dec.{ltb, eqb}
-use lib.Ieee.{Float, nan, inf, fin, up, down, below, level, lt, le, isNan}
+use lib.Ieee.{Float, nan, inf, fin, up, down, below, level, lt, le, eq, isNan}
 use Rattle.binary64.proofs.Tests.{Tested, tested}
 
 -- A NaN is not below anything, and nothing is below it.
@@ -28,6 +28,14 @@ unfolding isNan
 lt-right-number x nan h = absurd (false≢true (sym (lt-nan x) ∙ h))
 lt-right-number x (inf t) h = refl
 lt-right-number x (fin t n d) h = refl
+
+pub le-right-number : (x y : Float) → le x y ≡ true → isNan y ≡ false
+unfolding le eq isNan
+le-right-number nan nan h = absurd (false≢true h)
+le-right-number (inf s) nan h = absurd (false≢true h)
+le-right-number (fin s m e) nan h = absurd (false≢true h)
+le-right-number x (inf t) h = refl
+le-right-number x (fin t n d) h = refl
 
 below-asymmetric : (s : Bool) (a : ℕ) (t : Bool) (b : ℕ) → below s a t b ≡ true → below t b s a ≡ false
 below-asymmetric false a false b h = le-ltb b a (le-of-lt (ltb-true a b h))

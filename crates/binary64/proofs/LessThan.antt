@@ -1,16 +1,18 @@
--- `lt` of floats is a strict order: irreflexive and transitive, infinities and NaN included. Assumes nothing.
-use mathlib.Core.Path.{_≡_, refl}
+-- `lt` of floats is a strict order, and `le` lengthens it at either end: irreflexive and transitive, infinities and NaN included. Assumes nothing.
+use mathlib.Core.Path.{_≡_, refl, sym, ap, _∙_, subst}
 use mathlib.Core.Logic.{inl, inr}
-use mathlib.Core.Bool.{Bool, true, false, false≢true}
-use Prim.Native.Nat.{ℕ, _+_, _*_, _<_}
-use native.Mathlib.Nat.{le-of-lt, mul-pos}
+use mathlib.Core.Bool.{Bool, true, false, true≢false, false≢true}
+use Prim.Native.Nat.{ℕ, zero, suc, _+_, _*_, _<_, _≤_}
+use native.Mathlib.Nat.{zero-lt-suc, eq-zero-or-pos, zero-mul, mul-pos}
 use native.Mathlib.Omega.{arith}
 use borrow.Author.Tests.{ltb-true, lt-ltb}
-use lib.Ieee.{Float, nan, inf, fin, up, down, below, lt}
+use lib.Dec.{T}
+use lib.Ieee.{Float, nan, inf, fin, up, down, below, lt, le, eq, isNan}
 use lib.Ieee.Fits.{down-pos}
 use lib.Ieee.Positive.{through, first-pos}
 use Rattle.binary64.proofs.Tests.{Tested, tested}
-use Rattle.binary64.proofs.FloatOrder.{lt-asymmetric}
+use Rattle.binary64.proofs.FloatOrder.{lt-left-number, lt-right-number, le-right-number, lt-asymmetric, le-not-lt, le-of-not-lt}
+use Rattle.binary64.proofs.SignedOrder.{SignedLe, test-says}
 
 pub lt-irreflexive : (x : Float) → lt x x ≡ false
 lt-irreflexive x = decide (lt x x) refl
@@ -19,23 +21,45 @@ lt-irreflexive x = decide (lt x x) refl
     decide true e = lt-asymmetric x x e
     decide false e = e
 
--- x / p < y / q < z / r
-fractions : (x y z p q r : ℕ) → 0 < p → x * q < y * p → y * r < z * q → x * r < z * p
-fractions x y z p q r P h k = decide (tested (z * p) (x * r))
+-- x / p ≤ y / q < z / r
+at-most-below : (x y z p q r : ℕ) → 0 < p → x * q ≤ y * p → y * r < z * q → x * r < z * p
+at-most-below x y z p q r P h k = decide (tested (z * p) (x * r))
   where
     decide : Tested (z * p) (x * r) → x * r < z * p
-    decide (inl g) = absurd (omega (arith, through z x y r p q P (g .0) (le-of-lt h)))
+    decide (inl g) = absurd (omega (arith, through z x y r p q P (g .0) h))
     decide (inr l) = l .0
 
+-- z / r < y / q ≤ x / p
+below-at-most : (x y z p q r : ℕ) → 0 < p → y * p ≤ x * q → z * q < y * r → z * p < x * r
+below-at-most x y z p q r P h k = decide (tested (x * r) (z * p))
+  where
+    decide : Tested (x * r) (z * p) → z * p < x * r
+    decide (inl g) = absurd (omega (arith, through y x z q p r P h (g .0)))
+    decide (inr l) = l .0
+
+-- A product is 0 by its first factor, where the second is above 0.
+pub factor-zero : (n k : ℕ) → 0 < k → n * k ≡ 0 → n ≡ 0
+factor-zero zero k K h = refl
+factor-zero (suc n) k K h = absurd (omega (arith, mul-pos {m = suc n} (zero-lt-suc n) K))
+
 -- the same for ±x / p and so on
-below-transitive : (s t u : Bool) (x y z p q r : ℕ) → 0 < p → 0 < q → 0 < r → below s (x * q) t (y * p) ≡ true → below t (y * r) u (z * q) ≡ true → below s (x * r) u (z * p) ≡ true
-below-transitive false false false x y z p q r P Q R h k = lt-ltb (x * r) (z * p) (fractions x y z p q r P (ltb-true (x * q) (y * p) h) (ltb-true (y * r) (z * q) k))
-below-transitive false false true x y z p q r P Q R h k = absurd (false≢true k)
-below-transitive false true u x y z p q r P Q R h k = absurd (false≢true h)
-below-transitive true false false x y z p q r P Q R h k = lt-ltb 0 (x * r + z * p) (omega (arith, mul-pos (first-pos z q (omega (arith, ltb-true (y * r) (z * q) k))) P))
-below-transitive true false true x y z p q r P Q R h k = absurd (false≢true k)
-below-transitive true true false x y z p q r P Q R h k = lt-ltb 0 (x * r + z * p) (omega (arith, mul-pos (first-pos x q (omega (arith, ltb-true (y * p) (x * q) h))) R))
-below-transitive true true true x y z p q r P Q R h k = lt-ltb (z * p) (x * r) (fractions z y x r q p R (ltb-true (z * q) (y * r) k) (ltb-true (y * p) (x * q) h))
+signed-below : (s t u : Bool) (x y z p q r : ℕ) → 0 < p → 0 < q → 0 < r → SignedLe s (x * q) t (y * p) → below t (y * r) u (z * q) ≡ true → below s (x * r) u (z * p) ≡ true
+signed-below false false false x y z p q r P Q R h k = lt-ltb (x * r) (z * p) (at-most-below x y z p q r P h (ltb-true (y * r) (z * q) k))
+signed-below false false true x y z p q r P Q R h k = absurd (false≢true k)
+signed-below false true false x y z p q r P Q R h k =
+    let none-x : x ≡ 0 = factor-zero x q Q (omega arith) in
+    let none-y : y ≡ 0 = factor-zero y p P (omega arith) in
+    let some-z : 0 < z = first-pos z q (omega (arith, ltb-true 0 (y * r + z * q) k, ap (λ (a : ℕ). a * r) none-y ∙ zero-mul r)) in
+    lt-ltb (x * r) (z * p) (omega (arith, mul-pos some-z P, ap (λ (a : ℕ). a * r) none-x ∙ zero-mul r))
+signed-below false true true x y z p q r P Q R h k =
+    absurd (omega (arith, ap (λ (a : ℕ). a * r) (factor-zero y p P (omega arith)) ∙ zero-mul r, ltb-true (z * q) (y * r) k))
+signed-below true false false x y z p q r P Q R h k = lt-ltb 0 (x * r + z * p) (omega (arith, mul-pos (first-pos z q (omega (arith, ltb-true (y * r) (z * q) k))) P))
+signed-below true false true x y z p q r P Q R h k = absurd (false≢true k)
+signed-below true true false x y z p q r P Q R h k = lt-ltb 0 (x * r + z * p) (elim (eq-zero-or-pos z) [
+  | inl none ↦ omega (arith, mul-pos (first-pos x q (omega (arith, h, mul-pos (first-pos y r (omega (arith, ltb-true 0 (y * r + z * q) k, ap (λ (a : ℕ). a * q) none ∙ zero-mul q))) P))) R)
+  | inr some ↦ omega (arith, mul-pos some P)
+])
+signed-below true true true x y z p q r P Q R h k = lt-ltb (z * p) (x * r) (below-at-most x y z p q r P h (ltb-true (z * q) (y * r) k))
 
 -- nothing lies above +∞
 above-infinity : (z : Float) → lt (inf false) z ≡ true → ⊥
@@ -44,20 +68,43 @@ above-infinity nan h = false≢true h
 above-infinity (inf u) h = false≢true h
 above-infinity (fin u o g) h = false≢true h
 
-pub lt-transitive : (x y z : Float) → lt x y ≡ true → lt y z ≡ true → lt x z ≡ true
+-- nothing lies below −∞
+below-infinity : (x : Float) → lt x (inf true) ≡ true → ⊥
 unfolding lt
-lt-transitive nan y z h k = absurd (false≢true h)
-lt-transitive (inf s) nan z h k = absurd (false≢true h)
-lt-transitive (inf true) (inf true) z h k = absurd (false≢true h)
-lt-transitive (inf true) (inf false) z h k = absurd (above-infinity z k)
-lt-transitive (inf false) (inf t) z h k = absurd (false≢true h)
-lt-transitive (inf false) (fin t n d) z h k = absurd (false≢true h)
-lt-transitive (inf true) (fin t n d) nan h k = absurd (false≢true k)
-lt-transitive (inf true) (fin t n d) (inf u) h k = k
-lt-transitive (inf true) (fin t n d) (fin u o g) h k = refl
-lt-transitive (fin s m e) nan z h k = absurd (false≢true h)
-lt-transitive (fin s m e) (inf true) z h k = absurd (false≢true h)
-lt-transitive (fin s m e) (inf false) z h k = absurd (above-infinity z k)
-lt-transitive (fin s m e) (fin t n d) nan h k = absurd (false≢true k)
-lt-transitive (fin s m e) (fin t n d) (inf u) h k = k
-lt-transitive (fin s m e) (fin t n d) (fin u o g) h k = below-transitive s t u (m * up e) (n * up d) (o * up g) (down e) (down d) (down g) (down-pos e) (down-pos d) (down-pos g) h k
+below-infinity nan h = false≢true h
+below-infinity (inf true) h = false≢true h
+below-infinity (inf false) h = false≢true h
+below-infinity (fin s m e) h = false≢true h
+
+pub le-lt-transitive : (x y z : Float) → le x y ≡ true → lt y z ≡ true → lt x z ≡ true
+unfolding le lt eq isNan
+le-lt-transitive nan y z h k = absurd (false≢true h)
+le-lt-transitive (inf true) y nan h k = absurd (true≢false (lt-right-number y nan k))
+le-lt-transitive (inf true) y (inf true) h k = absurd (below-infinity y k)
+le-lt-transitive (inf true) y (inf false) h k = refl
+le-lt-transitive (inf true) y (fin u o g) h k = refl
+le-lt-transitive (inf false) nan z h k = absurd (false≢true h)
+le-lt-transitive (inf false) (inf true) z h k = absurd (false≢true h)
+le-lt-transitive (inf false) (inf false) z h k = absurd (above-infinity z k)
+le-lt-transitive (inf false) (fin t n d) z h k = absurd (false≢true h)
+le-lt-transitive (fin s m e) nan z h k = absurd (false≢true h)
+le-lt-transitive (fin s m e) (inf true) z h k = absurd (false≢true h)
+le-lt-transitive (fin s m e) (inf false) z h k = absurd (above-infinity z k)
+le-lt-transitive (fin s m e) (fin t n d) nan h k = absurd (false≢true k)
+le-lt-transitive (fin s m e) (fin t n d) (inf u) h k = k
+le-lt-transitive (fin s m e) (fin t n d) (fin u o g) h k =
+    signed-below s t u (m * up e) (n * up d) (o * up g) (down e) (down d) (down g) (down-pos e) (down-pos d) (down-pos g) (test-says s _ t _ (subst T (sym h) tt)) k
+
+pub lt-le : (x y : Float) → lt x y ≡ true → le x y ≡ true
+unfolding le
+lt-le x y h = rw h
+
+pub lt-le-transitive : (x y z : Float) → lt x y ≡ true → le y z ≡ true → lt x z ≡ true
+lt-le-transitive x y z h k = decide (lt x z) refl
+  where
+    decide : (b : Bool) → lt x z ≡ b → lt x z ≡ true
+    decide true e = e
+    decide false e = absurd (false≢true (sym (le-not-lt z y k) ∙ le-lt-transitive z x y (le-of-not-lt z x (le-right-number y z k) (lt-left-number x y h) e) h))
+
+pub lt-transitive : (x y z : Float) → lt x y ≡ true → lt y z ≡ true → lt x z ≡ true
+lt-transitive x y z h k = le-lt-transitive x y z (lt-le x y h) k

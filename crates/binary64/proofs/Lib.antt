@@ -14,3 +14,6 @@ pub mod ConvertSteps
 pub mod ConversionCases
 pub mod ConvertedSteps
 pub mod NotNan
+pub mod Zeros
+pub mod Minimum
+pub mod MinimumRank

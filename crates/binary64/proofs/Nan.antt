@@ -1,9 +1,15 @@
--- What the test x != x tells of x. Assumes nothing.
+-- What the tests for a NaN tell of x. Assumes nothing.
 use mathlib.Core.Path.{_≡_, refl, sym, ap, subst, _∙_}
-use mathlib.Core.Bool.{Bool, true, false, not, true≢false}
+use mathlib.Core.Bool.{Bool, true, false, not, true≢false, false≢true}
 use lib.Dec.{T}
 use lib.Ieee.{Float, nan, inf, fin, ne, isNan}
 use lib.Ieee.Compare.{differs-from-itself, nan-differs}
+
+pub only-nan : (x : Float) → isNan x ≡ true → x ≡ nan
+unfolding isNan
+only-nan nan h = refl
+only-nan (inf s) h = absurd (false≢true h)
+only-nan (fin s m e) h = absurd (false≢true h)
 
 -- Only a NaN differs from itself.
 pub is-nan : (x : Float) → ne x x ≡ true → x ≡ nan

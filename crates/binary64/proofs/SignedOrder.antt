@@ -31,7 +31,7 @@ at-most-passes : (a b p q : ℕ) → (a ≡ b → p ≡ q) → a ≤ b → T (lt
 at-most-passes a b p q same h =
     elim (eq-or-lt-of-le h) [ inl e ↦ or-right (ltb a b) (eqb p q && true) (and-i (eqb p q) true (eq→eqb (same e)) tt) | inr l ↦ or-left (ltb a b) (eqb p q && true) (lt→ltb a b l) ]
 
-test-says : (s : Bool) (a : ℕ) (t : Bool) (b : ℕ) → T (below s a t b || level s a t b) → SignedLe s a t b
+pub test-says : (s : Bool) (a : ℕ) (t : Bool) (b : ℕ) → T (below s a t b || level s a t b) → SignedLe s a t b
 test-says false a false b h = at-most-says a b a b (λ e. e) h
 test-says false a true b h = omega (arith, eqb→eq a b (and-l (eqb a b) (eqb a 0) h), eqb→eq a 0 (and-r (eqb a b) (eqb a 0) h))
 test-says true a false b h = tt

@@ -1,3 +1,4 @@
 pub mod TotalOrder
 pub mod Integral
 pub mod Convert
+pub mod Minimum

@@ -1,10 +1,11 @@
-// Helpers on binary64 that need no wide arithmetic: total order, floor, ceiling, conversion to a whole number.
+// Helpers on binary64 that need no wide arithmetic: total order, minimum, floor, ceiling, conversion to a whole number.
 // IEEE 754-2019 decides; the definitions stand in specs/.
 ghost use mathlib.Core.Path.{_≡_};
 ghost use mathlib.Core.Bool.{true};
 ghost use lib.Dec.{T};
 ghost use lib.Ieee.{lt, le, ofBits, binary64};
 ghost use Rattle.binary64.specs.TotalOrder.{totalOrdering, rankOfBits, rankOf};
+ghost use Rattle.binary64.specs.Minimum.{minimumNumber};
 ghost use Rattle.binary64.specs.Integral.{floorOf, ceilOf};
 ghost use Rattle.binary64.specs.Convert.{toI64, leastOfRange, aboveRange, conversionOf, convertedOf};
 
@@ -48,6 +49,23 @@ pub fn total_cmp(x: u64, y: u64) -> Ordering
         Ordering::Equal
     } else {
         Ordering::Greater
+    }
+}
+
+// The lesser of two doubles: a NaN is skipped, and −0 is below +0, whichever comes first.
+pub fn minimum_number(x: f64, y: f64) -> f64
+    ensures { λ r. ⌜ r ≡ minimumNumber x y ⌝ }
+{
+    if x == y {
+        // One datum, or two zeros: −0 has the lesser rank.
+        if rank(y) < rank(x) { y } else { x }
+    } else if x != x {
+        // The sum of two NaNs is a quiet one (IEEE 754-2019, 6.2), which either alone might not be.
+        if y != y { x + y } else { y }
+    } else if y < x {
+        y
+    } else {
+        x
     }
 }
 

@@ -5,6 +5,7 @@ ghost use mathlib.Core.List.{List, [], _∷_};
 ghost use lib.ListN.{length};
 ghost use lib.Ieee.{binary64};
 ghost use Rattle.binary64.specs.TotalOrder.{totalOrdering, rankOf};
+ghost use Rattle.binary64.specs.Minimum.{minimumNumber};
 ghost use Rattle.binary64.specs.Integral.{floorOf, ceilOf};
 ghost use Rattle.binary64.specs.Convert.{convertedOf};
 ghost use Rattle.fused.specs.Fused.{fusedMultiplyAdd};
@@ -137,6 +138,13 @@ pub extern "C" fn koshirga_rank(x: f64) -> u64
     ensures { λ r. ⌜ r ≡ rankOf x ⌝ }
 {
     binary64::rank(x)
+}
+
+#[no_mangle]
+pub extern "C" fn koshirga_minimum_number(x: f64, y: f64) -> f64
+    ensures { λ r. ⌜ r ≡ minimumNumber x y ⌝ }
+{
+    binary64::minimum_number(x, y)
 }
 
 #[no_mangle]

@@ -29,12 +29,6 @@ module _ (f : Format) (s t : Bool) (a b e c v : ℕ) where
   outcome-eq q g h z C = zero-pattern f ∙ sym (sum-opposite-eq f s t (a * 2 ^ e) (b * 2 ^ e) c q (ap (λ (z : ℕ). z * 2 ^ e) (let k : a ≡ b = omega arith in k)) C)
 
 -- ---- the tests
-pub signs-equal : (s t : Bool) → Bool·beq s t ≡ true → s ≡ t
-signs-equal true true e = refl
-signs-equal false false e = refl
-signs-equal true false e = absurd (false≢true e)
-signs-equal false true e = absurd (false≢true e)
-
 pub signs-differ : (s t : Bool) → Bool·beq s t ≡ false → s ≡ t → ⊥
 signs-differ true true e h = true≢false e
 signs-differ false false e h = true≢false e

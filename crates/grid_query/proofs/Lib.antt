@@ -11,3 +11,4 @@ pub mod Refusals
 pub mod Distance
 pub mod NearestCandidate
 pub mod Cell
+pub mod KeptTriangle

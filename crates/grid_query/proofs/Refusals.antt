@@ -28,7 +28,7 @@ use Rattle.grid_query.specs.declared.Located.{Located}
 use Rattle.grid_query.specs.declared.Located.the-variants as location
 use Rattle.grid_query.specs.Cell.{cellOfQuery, partWithin, candidates, triplesAt, cellRows}
 use Rattle.grid_query.specs.Nearest.{nearestOf, nearestIn, nearestVertex}
-use Rattle.grid_query.specs.Locate.{weighed, leastKept, keptOf, triplesWithin, triangleRows, locatedAt, locate}
+use Rattle.grid_query.specs.Locate.{weighedBy, weighed, leastKept, keptBy, keptOf, triplesWithin, triangleRows, locatedAt, locate}
 
 -- the part i of a list falls: the start behind it is below its own
 abbrev pub PartFalls : List ℕ → ℕ → Type 0
@@ -109,14 +109,14 @@ module _ (P : Refusal → Type 0) (plain : (number : ℕ) → number ≢ 17 → 
 
   -- row 12
   weighed-reason : (direction : Vector3) (t : List ℕ) → LocatedReason P (weighed positions direction t)
-  unfolding weighed
+  unfolding weighedBy
   weighed-reason direction [] = at-12
   weighed-reason direction (a ∷ []) = at-12
   weighed-reason direction (a ∷ b ∷ []) = at-12
   weighed-reason direction (a ∷ b ∷ c ∷ rest) = tt
 
   kept-reason : (direction : Vector3) (kept : Located) (ts : List (List ℕ)) → LocatedReason P kept → LocatedReason P (keptOf positions direction kept ts)
-  unfolding keptOf
+  unfolding keptBy
   kept-reason direction kept [] reason = reason
   kept-reason direction kept (t ∷ ts) reason = kept-reason direction _ ts (either (lt (leastKept kept) (leastKept (weighed positions direction t))))
     where

@@ -23,7 +23,7 @@ use Rattle.grid_query.specs.declared.Located.{Located}
 use Rattle.grid_query.specs.declared.Located.the-variants as location
 use Rattle.grid_query.specs.Cell.{cellOfQuery, candidates, inTriples, triplesAt, cellRows}
 use Rattle.grid_query.specs.Nearest.{nearestOf}
-use Rattle.grid_query.specs.Locate.{weighed, leastKept, keptOf, triplesWithin, triangleRows, locatedAt, locate}
+use Rattle.grid_query.specs.Locate.{weighedBy, weighed, leastKept, keptBy, keptOf, triplesWithin, triangleRows, locatedAt, locate}
 use Rattle.mesh.proofs.IdsBelow.{ids-below-at}
 
 pub never-located : (reason : Refusal) (triple : Triple) (weights : Weights) (least : Float) → location.Refused reason ≡ location.At triple weights least → ⊥
@@ -58,7 +58,7 @@ Sound n (location.At triple weights least) = LocatedFacts n triple weights least
 
 kept-sound : (n : ℕ) (positions : List Float) (direction : Vector3) (kept : Located) (l : List ℕ) → ((i : ℕ) → i < length l → getD l i 0 < n) → Sound n kept
     → Sound n (keptOf positions direction kept (inTriples l))
-unfolding keptOf weighed inTriples
+unfolding keptBy weighedBy inTriples
 kept-sound n positions direction kept [] below sound = sound
 kept-sound n positions direction kept (a ∷ []) below sound = sound
 kept-sound n positions direction kept (a ∷ b ∷ []) below sound = sound

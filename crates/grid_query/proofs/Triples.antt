@@ -15,7 +15,7 @@ use Rattle.barycentric.specs.Ericson.{projectedBarycentric}
 use Rattle.mesh.specs.Mesh.{positionOf}
 use Rattle.grid_query.specs.declared.Located.{Located}
 use Rattle.grid_query.specs.Cell.{inTriples}
-use Rattle.grid_query.specs.Locate.{tripleOf, located, weighed, leastKept, keptOf}
+use Rattle.grid_query.specs.Locate.{tripleOf, located, weighedBy, leastKept, keptBy, keptOf}
 
 three-ahead : (l : List ℕ) (i : ℕ) → i + 2 < length l → drop i l ≡ getD l i 0 ∷ getD l (i + 1) 0 ∷ getD l (i + 2) 0 ∷ drop (i + 3) l
 three-ahead l i h =
@@ -42,10 +42,10 @@ module _ (positions : List Float) (direction : Vector3) (l : List ℕ) (i : ℕ)
       → weights ≡ projectedBarycentric direction (positionOf positions (getD l i 0)) (positionOf positions (getD l (i + 1) 0)) (positionOf positions (getD l (i + 2) 0))
       → next ≡ cond (lt (leastKept kept) (leastWeight weights)) (located (tripleOf (getD l i 0) (getD l (i + 1) 0) (getD l (i + 2) 0)) weights) kept
       → keptOf positions direction next (inTriples (drop (i + 3) l)) ≡ keptOf positions direction kept (inTriples (drop i l))
-  unfolding keptOf weighed
+  unfolding keptBy weighedBy
   kept-step next weights inside w n = rw (n, w) (sym (ap (keptOf positions direction kept) (triple-ahead l i inside)))
 
   -- none left
   pub kept-end : length l < i + 3 → keptOf positions direction kept (inTriples (drop i l)) ≡ kept
-  unfolding keptOf
+  unfolding keptBy
   kept-end h = ap (keptOf positions direction kept) (no-triple (drop i l) (simp length-drop (omega arith)))

@@ -1,3 +1,4 @@
 pub mod Cell
 pub mod Nearest
 pub mod Locate
+pub mod KeptTriangle

@@ -30,13 +30,17 @@ tripleOf first second third = record { first = first; second = second; third = t
 abbrev pub located : Triple → Weights → Located
 located triple weights = At triple weights (leastWeight weights)
 
--- A listed triangle, weighed for a direction. A list that is no triple, which no part of a grid gives, is row 12's.
-unfoldable pub weighed : List Float → Vector3 → List ℕ → Located
-weighed positions direction [] = Refused (refusal 12)
-weighed positions direction (a ∷ []) = Refused (refusal 12)
-weighed positions direction (a ∷ b ∷ []) = Refused (refusal 12)
-weighed positions direction (a ∷ b ∷ c ∷ rest) =
-    located (tripleOf a b c) (projectedBarycentric direction (positionOf positions a) (positionOf positions b) (positionOf positions c))
+-- A listed triangle, weighed for a direction, its least by a rule. A list that is no triple, which no part of a grid gives, is row 12's.
+unfoldable pub weighedBy : (Weights → Float) → List Float → Vector3 → List ℕ → Located
+weighedBy rule positions direction [] = Refused (refusal 12)
+weighedBy rule positions direction (a ∷ []) = Refused (refusal 12)
+weighedBy rule positions direction (a ∷ b ∷ []) = Refused (refusal 12)
+weighedBy rule positions direction (a ∷ b ∷ c ∷ rest) =
+    let weights = projectedBarycentric direction (positionOf positions a) (positionOf positions b) (positionOf positions c) in
+    At (tripleOf a b c) weights (rule weights)
+
+abbrev pub weighed : List Float → Vector3 → List ℕ → Located
+weighed positions direction triple = weighedBy leastWeight positions direction triple
 
 -- The least that a triangle has to exceed: that of the one kept, "from minus infinity".
 abbrev pub leastKept : Located → Float
@@ -44,11 +48,15 @@ leastKept (Refused reason) = inf true
 leastKept (At triple weights least) = least
 
 -- "The triangle kept is the first whose least exceeds all earlier leasts". A NaN exceeds nothing, and is no least that a later one would have to exceed.
-unfoldable pub keptOf : List Float → Vector3 → Located → List (List ℕ) → Located
-keptOf positions direction kept [] = kept
-keptOf positions direction kept (t ∷ ts) =
-    let next = weighed positions direction t in
-    keptOf positions direction (cond (lt (leastKept kept) (leastKept next)) next kept) ts
+-- The triangle at the place i of the list has its least by `rule i`: KeptTriangle compares rules. The one of this engine is the least weight, at every place.
+unfoldable pub keptBy : (ℕ → Weights → Float) → List Float → Vector3 → Located → List (List ℕ) → Located
+keptBy rule positions direction kept [] = kept
+keptBy rule positions direction kept (t ∷ ts) =
+    let next = weighedBy (rule 0) positions direction t in
+    keptBy (λ i. rule (suc i)) positions direction (cond (lt (leastKept kept) (leastKept next)) next kept) ts
+
+abbrev pub keptOf : List Float → Vector3 → Located → List (List ℕ) → Located
+keptOf positions direction kept triples = keptBy (λ i. leastWeight) positions direction kept triples
 
 -- "for a triangle the same at the nearest vertex (3, 4)", which W-209 splits likewise: its part falls (18), then runs past the triples (3); then the ids of every triple there (4).
 unfoldable pub triplesWithin : Grid → ℕ → Bool

@@ -193,12 +193,16 @@ fn least_kept(kept: Located) -> f64
     }
 }
 
-// The triangle kept of one more: the earlier of equals stays.
+// The triangle kept of one more: the first of equal leasts stays. Most triangles have a weight that is too low, and no minimum is taken of theirs.
 fn keep(kept: Located, triple: Triple, weights: Weights) -> Located
     ensures { λ r. ⌜ r ≡ cond (lt (leastKept kept) (leastWeight weights)) (located triple weights) kept ⌝ }
 {
+    let bound = least_kept(kept);
+    if (weights.u <= bound) | (weights.v <= bound) | (weights.w <= bound) {
+        return kept;
+    }
     let least = least_weight(weights);
-    if least > least_kept(kept) {
+    if least > bound {
         Located::At {
             triple,
             weights,

@@ -54,3 +54,11 @@ pub fn total_order(text: &[u8], start: usize) -> Cursor {
     };
     records::expect(text, y.cursor(), code)
 }
+
+// Two numbers; the lesser of them, minimumNumber (IEEE 754-2019, 9.6).
+pub fn minimum_number(text: &[u8], start: usize) -> Cursor {
+    let mut operands = [0.0f64; 2];
+    let cursor = records::read_f64s(text, Cursor::new(start), &mut operands);
+    let result = c_api::koshirga_minimum_number(operands[0], operands[1]);
+    records::expect_f64(text, cursor, result)
+}

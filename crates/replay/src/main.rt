@@ -27,9 +27,10 @@ enum Kind {
     Mesh,
     Renumbering,
     GridQuery,
+    MinimumNumber,
 }
 
-const KINDS: u64 = 12;
+const KINDS: u64 = 13;
 
 // The kinds are numbered from 0, in the order above. Right records are also read by these numbers, so that a wrong arm shows as differences.
 fn kind_of(number: u64) -> Kind {
@@ -45,7 +46,8 @@ fn kind_of(number: u64) -> Kind {
         8 => Kind::GridHash,
         9 => Kind::Mesh,
         10 => Kind::Renumbering,
-        _ => Kind::GridQuery,
+        11 => Kind::GridQuery,
+        _ => Kind::MinimumNumber,
     }
 }
 
@@ -64,6 +66,7 @@ fn replay_record(kind: Kind, text: &[u8], start: usize) -> Cursor {
         Kind::Mesh => meshes::mesh(text, start),
         Kind::Renumbering => renumberings::renumbering(text, start),
         Kind::GridQuery => queries::grid_query(text, start),
+        Kind::MinimumNumber => arithmetic::minimum_number(text, start),
     }
 }
 
@@ -136,6 +139,7 @@ fn main() {
     replay(b"meshes", 9);
     replay(b"renumberings", 10);
     replay(b"grid_queries", 11);
+    replay(b"minimum_number", 12);
     locators::replay(b"locators_1");
     locators::replay(b"locators_2");
     locators::replay(b"locators_3");

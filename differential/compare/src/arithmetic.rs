@@ -1,7 +1,7 @@
 //! Fused multiply-add and square root, beside Rust's own.
 
 use crate::check::{same, Check, Judge, Tally};
-use crate::operands::{Class, RADICANDS, TRIPLES};
+use crate::operands::{Class, COMPARANDS, RADICANDS, TRIPLES};
 use std::hint::black_box;
 use std::io::{self, Write};
 
@@ -61,6 +61,9 @@ pub fn write_cases(out: &mut impl Write) -> io::Result<()> {
         .iter()
         .try_for_each(|class| write_class(out, class))?;
     RADICANDS
+        .iter()
+        .try_for_each(|class| write_class(out, class))?;
+    COMPARANDS
         .iter()
         .try_for_each(|class| write_class(out, class))
 }

@@ -7,7 +7,7 @@ use crate::pairs::{self, pair, USUAL};
 use crate::patterns::Random;
 use crate::queries::Slices;
 use icotable_oracle as rust;
-use koshirga::{GridMut, MeshMut, Scratch, Settings, Vector3};
+use koshirga::{GridMut, MeshMut, Scratch, Settings, Vector3, Weights};
 use std::hint::black_box;
 use std::time::Instant;
 
@@ -35,6 +35,19 @@ pub fn run() {
     print_line("ceil", mixed, |&x| koshirga::ceil(x), |&x| x.ceil());
     print_line("to_i64", mixed, |&x| koshirga::to_i64(x), |&x| x as i64);
     print_line("rank", mixed, |&x| koshirga::rank(x), |&x| place(x));
+    // Not the same operation: Rust's min may give either of two zeros.
+    print_line(
+        "minimum_number, Rust min",
+        |random| [mixed(random), mixed(random)],
+        |&[x, y]| koshirga::minimum_number(x, y),
+        |&[x, y]| x.min(y),
+    );
+    print_line(
+        "least_weight, Rust min",
+        |random| [random.unit(), random.unit(), random.unit()],
+        |&[u, v, w]| koshirga::least_weight(Weights { u, v, w }),
+        |&[u, v, w]| u.min(v).min(w),
+    );
     print_line("norm", vectors, |(v, _)| v.norm(), |(_, v)| v.norm());
     print_line(
         "normalize",

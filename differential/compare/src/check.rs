@@ -44,8 +44,9 @@ pub enum Judge {
     /// What the Rust returned, or a table of its own.
     Rust,
     /// What the Rust doesn't return, worked out beside it: from its grid, order or conversions, or
-    /// by the text of document 01, of W-207, of W-208, whose mark the Rust has not, and of W-210,
-    /// whose other pairs of factor and margin it has not.
+    /// by the text of document 01, of W-201, whose sign of a zero the Rust leaves open, of W-207, of
+    /// W-208, whose mark the Rust has not, and of W-210, whose other pairs of factor and margin it
+    /// has not.
     Beside,
     /// The text of the rows: refusals, and answers on damaged grids.
     Rows,

@@ -1,7 +1,10 @@
-//! Total order, rank, floor, ceiling and conversion, beside Rust's own methods of doubles.
+//! Total order, rank, minimum, floor, ceiling and conversion, beside Rust's own methods of doubles.
 
 use crate::check::{same, Check, Judge, Kinds, Tally};
-use crate::patterns::{Patterns, BIAS, EXPONENT_FIELDS, SIGN, SIGNIFICAND, SIGNIFICAND_DIGITS};
+use crate::operands::COMPARANDS;
+use crate::patterns::{
+    Patterns, BIAS, EXPONENT_FIELDS, MIDDLE, SIGN, SIGNIFICAND, SIGNIFICAND_DIGITS,
+};
 use koshirga::{Conversion, Converted};
 
 pub fn checks() -> Vec<Check> {
@@ -9,6 +12,7 @@ pub fn checks() -> Vec<Check> {
         Check::new("total_cmp", total_cmp),
         Check::new("rank_order", rank_order),
         Check::new("rank_place", rank_place),
+        Check::new("minimum_number", minimum_number),
         Check::new("floor", floor),
         Check::new("ceil", ceil),
         Check::new("to_i64", to_i64),
@@ -63,6 +67,94 @@ fn rank_place(tally: &mut Tally) {
             format!("rank({bits:#018x}): {ours:#018x}, place {place:#018x}")
         });
     });
+}
+
+/// minimumNumber, read from the clause (IEEE 754-2019, 9.6) and not from `f64::min`, which leaves
+/// the sign of a zero open: the lesser of two numbers, where −0 compares less than +0; the number
+/// where the other is a NaN, quiet or signaling; a NaN where both are.
+pub fn minimum_number_of(x: f64, y: f64) -> f64 {
+    let is_negative_zero = |x: f64| x.to_bits() == SIGN;
+    let is_positive_zero = |x: f64| x.to_bits() == 0;
+    let is_less = |x, y| x < y || (is_negative_zero(x) && is_positive_zero(y));
+    match [x.is_nan(), y.is_nan()] {
+        [true, true] => f64::NAN,
+        [true, false] => y,
+        [false, true] => x,
+        [false, false] if is_less(y, x) => y,
+        // The first is less, or they are the same datum.
+        [false, false] => x,
+    }
+}
+
+fn is_quiet_nan(x: f64) -> bool {
+    x.is_nan() && x.to_bits() & MIDDLE != 0
+}
+
+/// Whether Rust says what `f64::min` gives: for numbers that differ, for a number and itself, and for
+/// a number and a quiet NaN. Of zeros of different sign it may give either. Signaling NaNs are held
+/// to the clause alone.
+fn rust_fixes_minimum(x: f64, y: f64) -> bool {
+    match [x.is_nan(), y.is_nan()] {
+        [true, true] => false,
+        [true, false] => is_quiet_nan(x),
+        [false, true] => is_quiet_nan(y),
+        [false, false] => x != y || x.to_bits() == y.to_bits(),
+    }
+}
+
+/// What two operands are to each other; whether they are so.
+fn kinds_of_comparands(x: f64, y: f64) -> [(&'static str, bool); 10] {
+    let one_nan = x.is_nan() != y.is_nan();
+    let are = |first: u64, second: u64| [x, y].map(f64::to_bits) == [first, second];
+    [
+        ("the first is less", x < y),
+        ("the second is less", y < x),
+        ("a number and itself", x == y && x.to_bits() == y.to_bits()),
+        ("+0, then -0", are(0, SIGN)),
+        ("-0, then +0", are(SIGN, 0)),
+        ("a quiet NaN, then a number", one_nan && is_quiet_nan(x)),
+        ("a number, then a quiet NaN", one_nan && is_quiet_nan(y)),
+        ("a signaling NaN, then a number", {
+            one_nan && x.is_nan() && !is_quiet_nan(x)
+        }),
+        ("a number, then a signaling NaN", {
+            one_nan && y.is_nan() && !is_quiet_nan(y)
+        }),
+        ("two NaNs", x.is_nan() && y.is_nan()),
+    ]
+}
+
+/// In both orders beside the clause, where a NaN that is given has to be quiet; beside Rust's own
+/// where it says what that is.
+fn minimum_number(tally: &mut Tally) {
+    let mut kinds = Kinds::default();
+    for class in COMPARANDS {
+        class.each(class.count, |[x, y]| {
+            let name = || {
+                let [x, y] = [x, y].map(f64::to_bits);
+                format!("minimum_number({x:#018x}, {y:#018x})")
+            };
+            let ours = koshirga::minimum_number(x, y);
+            let exchanged = koshirga::minimum_number(y, x);
+            let clause = minimum_number_of(x, y);
+            let alike =
+                |x: f64| x.to_bits() == clause.to_bits() || clause.is_nan() && is_quiet_nan(x);
+            tally.compare(Judge::Beside, alike(ours) && alike(exchanged), || {
+                format!(
+                    "{}: {ours:?}, exchanged {exchanged:?}, clause {clause:?}",
+                    name()
+                )
+            });
+            if rust_fixes_minimum(x, y) {
+                let rust = x.min(y);
+                tally.compare(Judge::Rust, same(ours, rust), || {
+                    format!("{}: {ours:?}, Rust {rust:?}", name())
+                });
+            }
+            kinds.count(&kinds_of_comparands(x, y));
+        });
+    }
+    kinds.all_reached(tally);
 }
 
 fn floor(tally: &mut Tally) {

@@ -29,6 +29,7 @@ mod rows;
 mod vectors;
 mod walk;
 mod weights;
+mod zeros;
 
 use check::Topic;
 use std::fs;

@@ -87,6 +87,16 @@ impl Lists {
         }
     }
 
+    /// Each vertex is a neighbour of all others.
+    pub fn complete(vertices: Vec<[f64; 3]>) -> Self {
+        let count = vertices.len() as u16;
+        let others = |v: u16| (0..count).filter(|&other| other != v).collect();
+        Lists {
+            neighbors: (0..count).map(others).collect(),
+            vertices,
+        }
+    }
+
     /// Whether every list ascends, repeats side by side.
     pub fn ascend(&self) -> bool {
         self.neighbors.iter().all(|list| list.is_sorted())

@@ -1,11 +1,12 @@
-//! Operands of the fused multiply-add and of the root, by class: each class is a way in which
-//! alignment, rounding or an exception can go wrong. Seeds are fixed.
+//! Operands of the fused multiply-add, of the root and of the minimum, by class: each class is a way
+//! in which alignment, rounding, an order or an exception can go wrong. Seeds are fixed.
 
 use crate::patterns::{
     Random, BIAS, EDGE_SIGNIFICANDS, EXPONENT_FIELDS, SIGN, SIGNIFICAND, SIGNIFICAND_DIGITS,
 };
 
 const MILLION: usize = 1_000_000;
+const INFINITY: u64 = f64::INFINITY.to_bits();
 /// The exponent of the least subnormal.
 const LEAST_EXPONENT: i64 = -1074;
 
@@ -141,6 +142,28 @@ pub const RADICANDS: &[Class<1>] = &[
         count: 2 * EXPONENT_FIELDS as usize * EDGE_SIGNIFICANDS.len(),
         seed: 58,
         draw: all_exponents,
+    },
+];
+
+/// The two operands of the minimum.
+pub const COMPARANDS: &[Class<2>] = &[
+    Class {
+        name: "minimum_number, random",
+        count: 5 * MILLION,
+        seed: 61,
+        draw: random_comparands,
+    },
+    Class {
+        name: "minimum_number, close",
+        count: 5 * MILLION,
+        seed: 62,
+        draw: close_comparands,
+    },
+    Class {
+        name: "minimum_number, special values",
+        count: MILLION,
+        seed: 63,
+        draw: special_comparands,
     },
 ];
 
@@ -405,6 +428,40 @@ fn special_values(random: &mut Random, at: usize) -> [f64; 3] {
             random.bits()
         })
     })
+}
+
+fn random_comparands(random: &mut Random, _: usize) -> [f64; 2] {
+    [0; 2].map(|_| f64::from_bits(random.bits()))
+}
+
+/// In turn a pattern and itself, its opposite, one that is at most two patterns away, and one that
+/// differs in one digit. One in four is a zero or at most two patterns away from it, one in four an
+/// infinity or at most two away from that, a signaling NaN among them.
+fn close_comparands(random: &mut Random, at: usize) -> [f64; 2] {
+    let x = match random.below(4) {
+        0 => random.bits() & SIGN | random.below(3),
+        1 => random.bits() & SIGN | random.near(INFINITY, 2),
+        _ => random.bits(),
+    };
+    let y = match at % 4 {
+        0 => x,
+        1 => x ^ SIGN,
+        2 => random.near(x, 2),
+        _ => x ^ 1 << random.below(64),
+    };
+    [x, y].map(f64::from_bits)
+}
+
+/// All pairs of special values, then each in turn beside a random pattern, first or second.
+fn special_comparands(random: &mut Random, at: usize) -> [f64; 2] {
+    let [x, y] = if at < SIGNED_SPECIAL.pow(2) {
+        [special(at), special(at / SIGNED_SPECIAL)]
+    } else if random.below(2) == 0 {
+        [special(at), random.bits()]
+    } else {
+        [random.bits(), special(at)]
+    };
+    [x, y].map(f64::from_bits)
 }
 
 /// One in sixteen may be below zero.

@@ -56,7 +56,8 @@ impl Random {
     }
 }
 
-const MIDDLE: u64 = 1 << (SIGNIFICAND_DIGITS - 1);
+/// The first digit of a stored significand; in a NaN it tells a quiet one (IEEE 754-2019, 6.2.1).
+pub const MIDDLE: u64 = 1 << (SIGNIFICAND_DIGITS - 1);
 
 /// The ends and the middle of the significands, with their neighbours.
 pub const EDGE_SIGNIFICANDS: [u64; 8] = [

@@ -9,12 +9,16 @@ use crate::meshes::{Lattice, Lists, FREQUENCIES};
 use crate::pairs::{self, kinds_of_pair, pair, settings_row, USUAL};
 use crate::patterns::Random;
 use crate::rows::Reason;
-use crate::weights::least_by_the_text;
+use crate::weights::{earlier_least, least_by_the_clause};
+use crate::zeros::{self, first_of_both, ByHand};
 use icotable_oracle as rust;
 use koshirga::{Located, Nearest, Settings, Vector3, Weights};
 
 /// Directions of each frequency.
 const DIRECTIONS: usize = 260_000;
+/// Meshes with zeros of both signs among their weights, and directions of each.
+const ZERO_MESHES: usize = 200_000;
+const ZERO_DIRECTIONS: usize = 20;
 /// Queries of damaged grids.
 const DAMAGED: usize = 1_000_000;
 /// Frequencies whose grids are built at other pairs, how many pairs each has, and the directions of a
@@ -30,6 +34,8 @@ pub fn checks() -> Vec<Check> {
     vec![
         Check::new("odd frequencies", |tally| directions(tally, 1)),
         Check::new("even frequencies", |tally| directions(tally, 0)),
+        Check::new("zeros of both signs", zeros_of_both_signs),
+        Check::new("zeros by hand", zeros_by_hand),
         Check::new("other pairs", other_pairs),
         Check::new("pairs changed after building", changed_pairs),
         Check::new("pairs by hand", pairs_by_hand),
@@ -97,7 +103,7 @@ fn located(face: [usize; 3], [u, v, w]: [f64; 3]) -> Located {
     Located {
         triple: face.map(|id| id as u32),
         weights,
-        least: least_by_the_text(weights),
+        least: least_by_the_clause(weights),
     }
 }
 
@@ -322,15 +328,148 @@ fn located_by_the_text(slices: &Slices, v: Vector3, nearest: usize) -> Result<Lo
     let ids = &slices.triples[start..end];
     refuse_where(ids.iter().any(|&id| usize::from(id) >= count), 4)?;
     let mut kept: Option<Located> = None;
-    for triple in ids.chunks(3) {
-        let face = [0, 1, 2].map(|at| usize::from(triple[at]));
-        let [a, b, c] = face.map(|id| slices.position(id));
-        let next = located(face, rust::projected_barycentric(&unit, &a, &b, &c));
+    for next in ids.chunks(3).map(|triple| weighed(slices, &unit, triple)) {
         if next.least > kept.map_or(f64::NEG_INFINITY, |kept| kept.least) {
             kept = Some(next);
         }
     }
     kept.ok_or(Reason::row(12))
+}
+
+/// A triangle with its weights at a normalised direction, which the Rust works out.
+fn weighed(slices: &Slices, unit: &rust::Vector3, triple: &[u16]) -> Located {
+    let face = [0, 1, 2].map(|at| usize::from(triple[at]));
+    let [a, b, c] = face.map(|id| slices.position(id));
+    located(face, rust::projected_barycentric(unit, &a, &b, &c))
+}
+
+/// Of a location whose weights hold zeros of both signs: which comes first, on three vertices or
+/// more. Of one whose least is a zero: whether a later triangle has the other zero as its least, which
+/// does not exceed it.
+const ZERO_KINDS: [&str; 7] = [
+    "+0 before -0: the least was +0 by 01; three vertices",
+    "+0 before -0: the least was +0 by 01; more",
+    "-0 before +0; three vertices",
+    "-0 before +0; more",
+    "kept with -0, +0 by 01; a later least is +0",
+    "kept with -0; a later least is +0",
+    "kept with +0; a later least is -0",
+];
+
+fn kinds_of_zeros(slices: &Slices, v: Vector3, answers: &Answers) -> [(&'static str, bool); 7] {
+    let Ok(Located {
+        triple,
+        weights,
+        least,
+    }) = answers.located
+    else {
+        return ZERO_KINDS.map(|kind| (kind, false));
+    };
+    let both = first_of_both(&[weights.u, weights.v, weights.w]).is_some();
+    let other = earlier_least(weights).to_bits() != least.to_bits();
+    let three = slices.positions.len() == 9;
+    let later = later_leasts(slices, v, answers, triple);
+    let tied = |zero: f64, behind: f64| {
+        let is_behind = |later: &f64| later.to_bits() == behind.to_bits();
+        least.to_bits() == zero.to_bits() && later.iter().any(is_behind)
+    };
+    let is = [
+        both && other && three,
+        both && other && !three,
+        both && !other && three,
+        both && !other && !three,
+        tied(-0.0, 0.0) && other,
+        tied(-0.0, 0.0),
+        tied(0.0, -0.0),
+    ];
+    std::array::from_fn(|at| (ZERO_KINDS[at], is[at]))
+}
+
+/// The leasts of the triangles that stand behind this one at the nearest vertex.
+fn later_leasts(slices: &Slices, v: Vector3, answers: &Answers, triple: [u32; 3]) -> Vec<f64> {
+    let unit = rust_of(v).normalize();
+    let at = answers.nearest.as_ref().map_or(0, |nearest| nearest.id) as usize;
+    let [start, end] = [at, at + 1].map(|at| 3 * slices.triangle_starts[at] as usize);
+    slices.triples[start..end]
+        .chunks(3)
+        .map(|triple| weighed(slices, &unit, triple))
+        .skip_while(|next| next.triple != triple)
+        .skip(1)
+        .map(|next| next.least)
+        .collect()
+}
+
+/// The Rust's answers, but for row 12, where it has none.
+fn rust_or_row_12(slices: &Slices, grid: &rust::FaceGrid, v: Vector3) -> Answers {
+    let mut answers = rust_answers(slices, grid, v);
+    if let Err(reason) = answers_by_the_text(slices, v).located {
+        answers.located = Err(reason);
+    }
+    answers
+}
+
+/// The triangle kept does not depend on the sign of a zero, so it is the Rust's, whichever zero its
+/// `f64::min` gives; the least is the clause's.
+fn zeros_of_both_signs(tally: &mut Tally) {
+    let mut random = Random::new(80);
+    let mut rows = Rows::default();
+    let mut kinds = Kinds::default();
+    for _ in 0..ZERO_MESHES {
+        let mesh = zeros::SmallMesh::random(&mut random);
+        let Lists {
+            vertices,
+            neighbors,
+        } = &mesh.lists;
+        let grid = rust::FaceGrid::new(vertices, neighbors);
+        let slices = Slices::new(&mesh.lists, &grid);
+        for _ in 0..ZERO_DIRECTIONS {
+            let v = mesh.direction(&mut random);
+            let rust = rust_or_row_12(&slices, &grid, v);
+            rows.count(rust.located.as_ref().err().copied());
+            kinds.count(&kinds_of_zeros(&slices, v, &rust));
+            let ours = our_answers(slices.as_grid(), v);
+            compare_with_rust(tally, &ours, &rust, || format!("{vertices:?}, {v:?}"));
+        }
+    }
+    rows.all_reached(tally, &[11, 12]);
+    kinds.all_reached(tally);
+}
+
+/// The engine builds these grids too: their meshes are such as it accepts.
+fn zeros_by_hand(tally: &mut Tally) {
+    for ByHand {
+        vertices,
+        direction,
+        weights,
+        leasts: [earlier, least],
+    } in zeros::BY_HAND
+    {
+        let lists = Lists::complete(vertices.to_vec());
+        let mesh = lists.flat();
+        let built = koshirga::FaceGrid::new(mesh.as_mesh());
+        let ours = built.map(|grid| grid.locate(direction));
+        let rust = rust::FaceGrid::new(&lists.vertices, &lists.neighbors);
+        let (face, [u, v, w]) = rust.locate(&rust_of(direction));
+        let of_rust = Weights { u, v, w };
+        let by_hand = Located {
+            triple: [0, 1, 2],
+            weights,
+            least,
+        };
+        let alike = matches!(&ours, Ok(Ok(ours)) if same_triangle(ours, &by_hand));
+        tally.compare(
+            Judge::Rust,
+            alike && face == [0, 1, 2] && same_weights(of_rust, weights),
+            || format!("{vertices:?}: {ours:?}, Rust {face:?} {of_rust:?}, by hand {by_hand:?}"),
+        );
+        let readings = [earlier_least(weights), least_by_the_clause(weights)];
+        let read = [(readings[0], earlier), (readings[1], least)];
+        let alike = read.iter().all(|&(reading, hand)| same(reading, hand))
+            && matches!(&ours, Ok(Ok(ours)) if same(ours.least, least));
+        tally.compare(Judge::Beside, alike, || {
+            format!("{vertices:?}: {ours:?}, by 01 and by the clause {readings:?}")
+        });
+    }
 }
 
 /// Grids of other pairs. At the usual one the text's answers have to be the Rust's.

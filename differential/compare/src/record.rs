@@ -5,15 +5,16 @@ use crate::analytic::{rust_answer, Answer, Classifier};
 use crate::check::Left;
 use crate::directions::{row_9, rust_of, Directions};
 use crate::grids::{held_beside, mesh_row, row_5, rust_grid};
-use crate::helpers::conversion_by_fields;
+use crate::helpers::{conversion_by_fields, minimum_number_of};
 use crate::marks::exchange;
 use crate::meshes::{permutation, Flat, Lattice, Lists, FREQUENCIES};
-use crate::operands::{Class, RADICANDS, TRIPLES};
-use crate::patterns::{Patterns, Random};
+use crate::operands::{Class, COMPARANDS, RADICANDS, TRIPLES};
+use crate::patterns::{Patterns, Random, SIGN};
 use crate::queries::{self, Answers, Slices};
 use crate::renumber::{self, State};
 use crate::rows::{adjacency_row, by_hand, damage, Reason};
 use crate::walk;
+use crate::zeros::{self, first_of_both};
 use icotable_oracle as rust;
 use koshirga::{Built, Conversion, Located, Nearest, Vector3};
 use std::path::Path;
@@ -38,13 +39,15 @@ const RENUMBERINGS: usize = 200;
 const GRIDS: usize = 200;
 /// Directions of a random grid.
 const QUERIES: usize = 6;
+/// Drawn grids with zeros of both signs among the weights: so many for each sign that comes first.
+const ZERO_GRIDS: usize = 5;
 /// Meshes whose lists ascend, almost ascend or were sorted, and renumberings by the identity.
 const ORDERED: usize = 60;
 const IDENTITIES: usize = 6;
 
 /// What the wrong records are made of: the file of a right one, the record in it, and the word of its
 /// answers that is changed, both counted from 0.
-const WRONG: [(&str, usize, usize); 16] = [
+const WRONG: [(&str, usize, usize); 17] = [
     ("mul_add", 0, 0),
     ("sqrt", 0, 0),
     // The conversion, of a negative number and of a positive one.
@@ -71,6 +74,8 @@ const WRONG: [(&str, usize, usize); 16] = [
     ("renumberings", 0, 82),
     // The number of candidates of the fourth direction.
     ("grid_queries", 34, 44),
+    // The minimum of +0 and the number next below zero.
+    ("minimum_number", 3, 0),
 ];
 /// The same for the mark after a lattice, a reading and a renumbering: the file, and what becomes of
 /// the mark. The shortest record of this kind is taken.
@@ -89,6 +94,9 @@ const WRONG_INDICES: [(&str, &str); 6] = [
     ("grid_queries", NEAREST),
     ("grid_queries", LOCATION),
 ];
+/// Files of which one record has +0 for −0 in its answers, where the clause tells the two apart: a
+/// minimum, and a least weight that was +0 by document 01.
+const WRONG_ZEROS: [&str; 2] = ["minimum_number", "grid_queries"];
 /// The same for the locators: the side of the first record, and a weight on the grid.
 const WRONG_LOCATORS: [(usize, usize); 2] = [(0, 2), (1, 19)];
 
@@ -175,7 +183,8 @@ const U16_BEFORE: u16 = 0xbeef;
 /// A record being written: its words and the places of those that are answers. Of calls that read
 /// starts, the rows that refuse them, and which of the answers is the index that row 18 carries; of
 /// the one that is lent the mark, what became of it, and which answer it is after the call; of a
-/// renumbered mesh, how the Rust left its lists.
+/// renumbered mesh, how the Rust left its lists; of minima and locations, where zeros of both signs
+/// have −0 as their least.
 #[derive(Clone, Default)]
 struct Record {
     words: Vec<String>,
@@ -185,6 +194,14 @@ struct Record {
     indices: Vec<(&'static str, usize)>,
     marked: Option<(Marked, usize)>,
     left: Left,
+    zeros: Zeros,
+}
+
+/// By the zero that comes first, the places among the answers of leasts that are −0.
+#[derive(Clone, Default)]
+struct Zeros {
+    positive_first: Vec<usize>,
+    negative_first: Vec<usize>,
 }
 
 impl Record {
@@ -315,10 +332,26 @@ impl Record {
                 triple,
                 weights: w,
                 least,
-            }) => record.numbers(triple).doubles(&[w.u, w.v, w.w, *least]),
+            }) => {
+                let weights = [w.u, w.v, w.w];
+                let record = record.numbers(triple).doubles(&weights);
+                record.least(&weights, *least)
+            }
             Err(_) => record.numbers(&[0u32; 7]),
         }
         .index(LOCATION, row)
+    }
+
+    /// The least of some numbers. Its place is kept where they hold zeros of both signs and it is one.
+    fn least(mut self, numbers: &[f64], least: f64) -> Self {
+        if let Some(first) = first_of_both(numbers).filter(|_| least == 0.0) {
+            let places = match first.is_sign_negative() {
+                true => &mut self.zeros.negative_first,
+                false => &mut self.zeros.positive_first,
+            };
+            places.push(self.answers.len());
+        }
+        self.double(least)
     }
 
     fn has(&self, mark: Marked) -> bool {
@@ -332,6 +365,14 @@ impl Record {
         let number = u64::from_str_radix(word, 16).expect("a changed word is a number");
         *word = format!("{:x}", number ^ 1);
         record
+    }
+
+    /// The record with +0 for the first least that is −0 and stands behind +0.
+    fn wrong_zero(&self) -> Option<Self> {
+        let mut record = self.clone();
+        let place = self.zeros.positive_first.first()?;
+        record.words[self.answers[*place]] = "0".to_string();
+        Some(record)
     }
 
     fn line(&self) -> String {
@@ -379,6 +420,7 @@ pub fn write(folder: &Path) -> io::Result<()> {
         ("meshes", meshes),
         ("renumberings", renumberings),
         ("grid_queries", grid_queries),
+        ("minimum_number", minimum_number),
     ]
     .map(|(name, records)| (name.to_string(), records()))
     .into();
@@ -391,6 +433,9 @@ pub fn write(folder: &Path) -> io::Result<()> {
     }
     for name in ["meshes", "renumberings"] {
         some_sorted(name, right(&files, name).1)?;
+    }
+    for name in WRONG_ZEROS {
+        both_first(name, right(&files, name).1)?;
     }
     let mut printed = String::new();
     fs::create_dir_all(folder.join("data"))?;
@@ -460,6 +505,23 @@ fn some_sorted(name: &str, records: &Records) -> io::Result<()> {
     Ok(())
 }
 
+/// Prints how many leasts of zeros of both signs there are, by the zero that comes first. None of one
+/// kind is an error.
+fn both_first(name: &str, records: &Records) -> io::Result<()> {
+    let sum =
+        |of: fn(&Zeros) -> usize| -> usize { records.iter().map(|record| of(&record.zeros)).sum() };
+    let positive = sum(|zeros| zeros.positive_first.len());
+    let negative = sum(|zeros| zeros.negative_first.len());
+    if positive == 0 || negative == 0 {
+        let message = format!("no least of {name} is -0 behind +0, or none is -0 before +0");
+        return Err(io::Error::other(message));
+    }
+    println!(
+        "{name}: leasts of zeros of both signs: {positive} with +0 first, {negative} with -0 first"
+    );
+    Ok(())
+}
+
 /// The number of a file in the program's order, and its records.
 fn right<'a>(files: &'a [(String, Records)], name: &str) -> (usize, &'a Records) {
     let at = files.iter().position(|(file, _)| file == name);
@@ -493,6 +555,13 @@ fn wrong_records(files: &[(String, Records)]) -> String {
         });
         let wrong = wrong.expect("a call that row 18 refuses");
         format!("{kind:x} {}", wrong.line())
+    }));
+    lines.extend(WRONG_ZEROS.map(|name| {
+        let (kind, records) = right(files, name);
+        let wrong = records.iter().filter_map(Record::wrong_zero);
+        let shortest = wrong.min_by_key(|record| record.line().len());
+        let shortest = shortest.expect("a least that is -0 behind +0");
+        format!("{kind:x} {}", shortest.line())
     }));
     // A word too many; one too few, and as it was 0 no other rule sees that; an upper-case digit; no
     // line feed at the end.
@@ -552,6 +621,39 @@ fn sqrt() -> Records {
     operands(RADICANDS)
         .into_iter()
         .map(|[x]| Record::default().double(x).outcome().double(x.sqrt()))
+        .collect()
+}
+
+/// Without signs: zero, ends of the ranges, 0.5, 1 and the next double, 2^53, infinity.
+const MAGNITUDES: [u64; 10] = [
+    0x0000_0000_0000_0000,
+    0x0000_0000_0000_0001,
+    0x000f_ffff_ffff_ffff,
+    0x0010_0000_0000_0000,
+    0x3fe0_0000_0000_0000,
+    0x3ff0_0000_0000_0000,
+    0x3ff0_0000_0000_0001,
+    0x4340_0000_0000_0000,
+    0x7fef_ffff_ffff_ffff,
+    0x7ff0_0000_0000_0000,
+];
+
+/// All pairs of twenty numbers and a NaN, then cases from all over each class. The minimum is read
+/// from the clause, as Rust's own leaves the sign of a zero open.
+fn minimum_number() -> Records {
+    let numbers = MAGNITUDES.iter().flat_map(|&bits| [bits, bits | SIGN]);
+    let of_pairs: Vec<f64> = numbers.map(f64::from_bits).chain([f64::NAN]).collect();
+    let pairs = of_pairs
+        .iter()
+        .flat_map(|&x| of_pairs.iter().map(move |&y| [x, y]));
+    pairs
+        .chain(operands(COMPARANDS))
+        .map(|[x, y]| {
+            Record::default()
+                .doubles(&[x, y])
+                .outcome()
+                .least(&[x, y], minimum_number_of(x, y))
+        })
         .collect()
 }
 
@@ -1067,8 +1169,23 @@ fn renumbering(state: &State, ids: &[u32], each: usize, places: [usize; 5]) -> R
     }
 }
 
-/// Queries of random grids. A damaged grid's answers are those of document 01's checks, as the Rust
-/// makes none; also where the nearest vertex has no triangle, for which the Rust has no answer.
+/// A grid, and how many directions follow.
+fn grid_record(slices: &Slices, directions: usize) -> Record {
+    Record::default()
+        .length(slices.positions.len())
+        .lengths(&grid_lengths(slices))
+        .number(slices.side)
+        .doubles(&slices.positions)
+        .numbers(&slices.cell_starts)
+        .numbers(&slices.cell_ids)
+        .numbers(&slices.triangle_starts)
+        .numbers(&slices.triples)
+        .length(directions)
+}
+
+/// Queries of random grids, and of such as have zeros of both signs among the weights. A damaged
+/// grid's answers are those of document 01's checks, as the Rust makes none; also where the nearest
+/// vertex has no triangle, for which the Rust has no answer.
 fn grid_queries() -> Records {
     let mut random = Random::new(105);
     let mut records = Records::new();
@@ -1085,16 +1202,7 @@ fn grid_queries() -> Records {
             queries::damage(&mut random, &mut slices);
         }
         let mut inputs = Directions::new(106 + records.len() as u64, &lists);
-        let mut record = Record::default()
-            .length(slices.positions.len())
-            .lengths(&grid_lengths(&slices))
-            .number(slices.side)
-            .doubles(&slices.positions)
-            .numbers(&slices.cell_starts)
-            .numbers(&slices.cell_ids)
-            .numbers(&slices.triangle_starts)
-            .numbers(&slices.triples)
-            .length(QUERIES);
+        let mut record = grid_record(&slices, QUERIES);
         for _ in 0..QUERIES {
             let v = inputs.direction();
             let text = queries::answers_by_the_text(&slices, v);
@@ -1107,7 +1215,51 @@ fn grid_queries() -> Records {
         }
         records.push(record);
     }
+    records.extend(zero_grids());
     records
+}
+
+/// The grids by hand, and drawn ones, with +0 first and then with −0 first.
+fn zero_grids() -> Records {
+    let by_hand = zeros::BY_HAND.iter().filter_map(|by_hand| {
+        let lists = Lists::complete(by_hand.vertices.to_vec());
+        zero_grid(&lists, &[by_hand.direction], by_hand.leasts[0])
+    });
+    let mut random = Random::new(110);
+    let mut drawn = |first: f64| loop {
+        let mesh = zeros::SmallMesh::random(&mut random);
+        let directions = [0; 4 * QUERIES].map(|_| mesh.direction(&mut random));
+        if let Some(record) = zero_grid(&mesh.lists, &directions, first) {
+            return record;
+        }
+    };
+    let firsts = [[0.0; ZERO_GRIDS], [-0.0; ZERO_GRIDS]].concat();
+    by_hand.chain(firsts.into_iter().map(&mut drawn)).collect()
+}
+
+/// Queries of those directions, six at most and no two with the same bits, whose location has zeros
+/// of both signs among its weights, this one first. None where there is no such direction.
+fn zero_grid(lists: &Lists, directions: &[Vector3], first: f64) -> Option<Record> {
+    let grid = rust::FaceGrid::new(&lists.vertices, &lists.neighbors);
+    let slices = Slices::new(lists, &grid);
+    let bits = |v: &Vector3| [v.x, v.y, v.z].map(f64::to_bits);
+    let mut asked: Vec<(Vector3, Answers)> = Vec::new();
+    for v in directions {
+        let answers = queries::rust_answers(&slices, &grid, *v);
+        let is_wanted = answers.located.as_ref().is_ok_and(|located| {
+            let w = located.weights;
+            first_of_both(&[w.u, w.v, w.w]).map(f64::to_bits) == Some(first.to_bits())
+        });
+        let is_new = asked.iter().all(|(other, _)| bits(other) != bits(v));
+        if is_wanted && is_new && asked.len() < QUERIES {
+            asked.push((*v, answers));
+        }
+    }
+    let record = grid_record(&slices, asked.len());
+    let record = asked.iter().fold(record, |record, (v, answers)| {
+        record.direction(*v).answers(answers)
+    });
+    (!asked.is_empty()).then_some(record)
 }
 
 /// Lattice and grid, then directions: the answers of both locators. No weight is NaN, as then the

@@ -1,9 +1,11 @@
-//! Barycentric weights beside the Rust's.
+//! Barycentric weights beside the Rust's, and their least beside minimumNumber.
 
 use crate::analytic::same_weights;
-use crate::check::{same, Check, Judge, Tally};
+use crate::check::{same, Check, Judge, Kinds, Tally};
 use crate::directions::rust_of;
-use crate::patterns::{Random, Vectors, RANDOM};
+use crate::helpers::minimum_number_of;
+use crate::patterns::{Random, Vectors, RANDOM, SIGN};
+use crate::zeros::first_of_both;
 use icotable_oracle as rust;
 use koshirga::{least_weight, projected_barycentric, Vector3, Weights};
 
@@ -100,8 +102,15 @@ fn degenerate(source: &mut Source) -> [Vector3; 4] {
     }
 }
 
-/// Document 01: "The least skips NaN, and the earlier of equals stays."
-pub fn least_by_the_text(weights: Weights) -> f64 {
+/// W-201: the least is minimumNumber of the first two weights, and of that and the third (IEEE
+/// 754-2019, 9.6).
+pub fn least_by_the_clause(weights: Weights) -> f64 {
+    minimum_number_of(minimum_number_of(weights.u, weights.v), weights.w)
+}
+
+/// Document 01's least, which W-201 replaces: "The least skips NaN, and the earlier of equals stays."
+/// It is here to tell where the two differ, and nothing is held to it.
+pub fn earlier_least(weights: Weights) -> f64 {
     let mut least = f64::NAN;
     for weight in [weights.u, weights.v, weights.w] {
         if !weight.is_nan() && (least.is_nan() || weight < least) {
@@ -111,7 +120,77 @@ pub fn least_by_the_text(weights: Weights) -> f64 {
     least
 }
 
+/// How zeros and NaNs stand among weights whose least is a zero, and three NaNs; whether weights are
+/// so.
+fn kinds_of_zeros(weights: Weights) -> [(&'static str, bool); 7] {
+    let three = [weights.u, weights.v, weights.w];
+    let least = least_by_the_clause(weights);
+    let is_zero = least == 0.0;
+    let both = first_of_both(&three).filter(|_| is_zero);
+    let nan = three.iter().any(|x| x.is_nan());
+    let other = earlier_least(weights).to_bits() != least.to_bits();
+    let negative_first = both.is_some_and(f64::is_sign_negative);
+    let alone = |zero: f64| is_zero && both.is_none() && least.to_bits() == zero.to_bits();
+    [
+        ("+0 before -0: +0 by 01", both.is_some() && other),
+        ("-0 before +0", negative_first),
+        ("+0 before -0, and a NaN", both.is_some() && other && nan),
+        ("-0 before +0, and a NaN", negative_first && nan),
+        ("+0 and a NaN", alone(0.0) && nan),
+        ("-0 and a NaN", alone(-0.0) && nan),
+        ("three NaNs", least.is_nan()),
+    ]
+}
+
+/// The six orders of three weights.
+fn orders(Weights { u, v, w }: Weights) -> [Weights; 6] {
+    [
+        [u, v, w],
+        [u, w, v],
+        [v, u, w],
+        [v, w, u],
+        [w, u, v],
+        [w, v, u],
+    ]
+    .map(|[u, v, w]| Weights { u, v, w })
+}
+
+/// All threes of these are taken: zeros and NaNs, a signaling one and one below zero among them, at
+/// every place.
+const VALUES: [f64; 12] = [
+    f64::NEG_INFINITY,
+    -1.0,
+    f64::from_bits(SIGN + 1),
+    -0.0,
+    0.0,
+    f64::from_bits(1),
+    0.5,
+    1.0,
+    f64::INFINITY,
+    f64::NAN,
+    f64::from_bits(0x7ff0_0000_0000_0001),
+    f64::from_bits(0xfff8_0000_0000_0001),
+];
+
+/// Each order of the weights has the least that the clause gives for the first.
 fn least(tally: &mut Tally) {
+    let mut kinds = Kinds::default();
+    let mut compare = |weights: Weights| {
+        let clause = least_by_the_clause(weights);
+        let ours = orders(weights).map(least_weight);
+        let alike = ours.iter().all(|&least| same(least, clause));
+        tally.compare(Judge::Beside, alike, || {
+            format!("least of {weights:?} in all orders: {ours:?}, by the clause {clause:?}")
+        });
+        kinds.count(&kinds_of_zeros(weights));
+    };
+    for u in VALUES {
+        for v in VALUES {
+            for w in VALUES {
+                compare(Weights { u, v, w });
+            }
+        }
+    }
     let mut source = Source::new(45);
     for _ in 0..RANDOM / 3 {
         let v = source.vectors.vector();
@@ -121,14 +200,11 @@ fn least(tally: &mut Tally) {
             2 => -0.0,
             _ => x,
         };
-        let weights = Weights {
+        compare(Weights {
             u: component(v.x),
             v: component(v.y),
             w: component(v.z),
-        };
-        let (ours, text) = (least_weight(weights), least_by_the_text(weights));
-        tally.compare(Judge::Beside, same(ours, text), || {
-            format!("least of {weights:?}: {ours:?}, by the text {text:?}")
         });
     }
+    kinds.all_reached(tally);
 }

@@ -4,15 +4,15 @@ use Rattle.barycentric.specs.Weights.{leastWeight}
 use Rattle.barycentric.proofs.least_weight.Statement.{statement}
 use Rattle.barycentric.proofs.least_weight.Tie as tie
 
-lesser-weight-requires : tie.Need-lesser-weight-requires
-lesser-weight-requires c κs = search needs
+minimum-number-requires : tie.Need-minimum-number-requires
+minimum-number-requires c κs = search needs
 
-lesser-weight-requires-2 : tie.Need-lesser-weight-requires-2
-lesser-weight-requires-2 c κs = search needs
+minimum-number-requires-2 : tie.Need-minimum-number-requires-2
+minimum-number-requires-2 c κs = search needs
 
 returns : tie.Need-returns
 unfolding leastWeight
-returns c = rw (c .lesser-weight2 .ensures, c .before .lesser-weight .ensures)
+returns c = rw (c .minimum-number2 .ensures, c .before .minimum-number .ensures)
 
 pub least-weight-spec : {M : Type 1} → statement M
-least-weight-spec = tie.close (tie.spec lesser-weight-requires lesser-weight-requires-2 returns)
+least-weight-spec = tie.close (tie.spec minimum-number-requires minimum-number-requires-2 returns)

@@ -8,7 +8,8 @@ use lib.Pow.{pow-pos}
 use lib.Ieee.{binary64}
 use Rattle.words.specs.Value.{value}
 use Rattle.words.proofs.Order.{flag-lt, flag-le}
-use Rattle.fused.proofs.Outcomes.{outcome-same-sign, outcome-lt, outcome-gt, outcome-eq, signs-equal, signs-differ, words-zero, words-positive}
+use Rattle.binary64.proofs.Flags.{signs-equal}
+use Rattle.fused.proofs.Outcomes.{outcome-same-sign, outcome-lt, outcome-gt, outcome-eq, signs-differ, words-zero, words-positive}
 use Rattle.fused.proofs.add_aligned.Statement.{statement}
 use Rattle.fused.proofs.add_aligned.Tie as tie
 

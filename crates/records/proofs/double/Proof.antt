@@ -1,21 +1,16 @@
 -- `records::double` meets its contract: a pattern is a NaN's where it is greater than an infinity's, the sign left out. Assumes nothing.
 use Prim.Native.Nat.{ℕ, _*_, _%_, _^_, _<_}
 use mathlib.Core.Path.{_≡_, refl, sym, subst, _∙_}
-use mathlib.Core.Bool.{Bool, true, not, true≢false}
+use mathlib.Core.Bool.{Bool, not}
 use borrow.Author.Needs.{needs}
 use borrow.Author.Tests.{lt-ltb}
 use lib.Dec.{T}
 use lib.Arith.{le→nltb}
-use lib.Ieee.{Float, nan, inf, fin, binary64, div, isNan, ofBits}
+use lib.Ieee.{nan, binary64, div, ofBits}
 use lib.Ieee.Bits.{nanBits-is, nanBits-above}
+use Rattle.binary64.proofs.Nan.{only-nan}
 use Rattle.records.proofs.double.Statement.{statement}
 use Rattle.records.proofs.double.Tie as tie
-
-only-nan : (x : Float) → isNan x ≡ true → x ≡ nan
-unfolding isNan
-only-nan nan e = refl
-only-nan (inf s) e = absurd (true≢false (sym e))
-only-nan (fin s m x) e = absurd (true≢false (sym e))
 
 -- what the code returns for a NaN
 zero-over-zero : div binary64 (ofBits binary64 0) (ofBits binary64 0) ≡ nan
