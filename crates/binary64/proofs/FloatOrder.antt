@@ -9,6 +9,7 @@ use borrow.Author.Tests.{ltb-true, ltb-false, lt-ltb, le-ltb, eq-eqb, ne-eqb}
 use lib.Dec.{ltb, eqb}
 use lib.Ieee.{Float, nan, inf, fin, up, down, below, level, lt, le, eq, isNan}
 use Rattle.binary64.proofs.Tests.{Tested, tested}
+use Rattle.binary64.proofs.NotNan.{Signed, infinite, number}
 
 -- A NaN is not below anything, and nothing is below it.
 pub lt-left-number : (x y : Float) → lt x y ≡ true → isNan x ≡ false
@@ -36,6 +37,29 @@ le-right-number (inf s) nan h = absurd (false≢true h)
 le-right-number (fin s m e) nan h = absurd (false≢true h)
 le-right-number x (inf t) h = refl
 le-right-number x (fin t n d) h = refl
+
+-- Every number lies between the infinities.
+pub infinity-least : (x : Float) → isNan x ≡ false → le (inf true) x ≡ true
+unfolding le isNan
+infinity-least nan h = absurd (true≢false h)
+infinity-least (inf true) h = refl
+infinity-least (inf false) h = refl
+infinity-least (fin s m e) h = refl
+
+pub infinity-greatest : (x : Float) → isNan x ≡ false → le x (inf false) ≡ true
+unfolding le isNan
+infinity-greatest nan h = absurd (true≢false h)
+infinity-greatest (inf true) h = refl
+infinity-greatest (inf false) h = refl
+infinity-greatest (fin s m e) h = refl
+
+-- What has the sign + is not below what has the sign −.
+pub signs-apart : {x y : Float} → Signed true x → Signed false y → lt y x ≡ false
+unfolding lt
+signs-apart infinite infinite = refl
+signs-apart infinite (number n d) = refl
+signs-apart (number m e) infinite = refl
+signs-apart (number m e) (number n d) = refl
 
 below-asymmetric : (s : Bool) (a : ℕ) (t : Bool) (b : ℕ) → below s a t b ≡ true → below t b s a ≡ false
 below-asymmetric false a false b h = le-ltb b a (le-of-lt (ltb-true a b h))

@@ -11,8 +11,8 @@ use lib.Ieee.{Float, nan, inf, fin, up, down, below, lt, le, eq, isNan}
 use lib.Ieee.Fits.{down-pos}
 use lib.Ieee.Positive.{through, first-pos}
 use Rattle.binary64.proofs.Tests.{Tested, tested}
-use Rattle.binary64.proofs.FloatOrder.{lt-left-number, lt-right-number, le-right-number, lt-asymmetric, le-not-lt, le-of-not-lt}
-use Rattle.binary64.proofs.SignedOrder.{SignedLe, test-says}
+use Rattle.binary64.proofs.FloatOrder.{lt-left-number, lt-right-number, le-right-number, infinity-least, infinity-greatest, lt-asymmetric, le-not-lt, le-of-not-lt}
+use Rattle.binary64.proofs.SignedOrder.{SignedLe, signed-of-finite}
 
 pub lt-irreflexive : (x : Float) → lt x x ≡ false
 lt-irreflexive x = decide (lt x x) refl
@@ -20,6 +20,9 @@ lt-irreflexive x = decide (lt x x) refl
     decide : (b : Bool) → lt x x ≡ b → lt x x ≡ false
     decide true e = lt-asymmetric x x e
     decide false e = e
+
+pub le-reflexive : (x : Float) → isNan x ≡ false → le x x ≡ true
+le-reflexive x number = le-of-not-lt x x number number (lt-irreflexive x)
 
 -- x / p ≤ y / q < z / r
 at-most-below : (x y z p q r : ℕ) → 0 < p → x * q ≤ y * p → y * r < z * q → x * r < z * p
@@ -63,18 +66,11 @@ signed-below true true true x y z p q r P Q R h k = lt-ltb (z * p) (x * r) (belo
 
 -- nothing lies above +∞
 above-infinity : (z : Float) → lt (inf false) z ≡ true → ⊥
-unfolding lt
-above-infinity nan h = false≢true h
-above-infinity (inf u) h = false≢true h
-above-infinity (fin u o g) h = false≢true h
+above-infinity z h = true≢false (sym h ∙ le-not-lt (inf false) z (infinity-greatest z (lt-right-number (inf false) z h)))
 
 -- nothing lies below −∞
 below-infinity : (x : Float) → lt x (inf true) ≡ true → ⊥
-unfolding lt
-below-infinity nan h = false≢true h
-below-infinity (inf true) h = false≢true h
-below-infinity (inf false) h = false≢true h
-below-infinity (fin s m e) h = false≢true h
+below-infinity x h = true≢false (sym h ∙ le-not-lt x (inf true) (infinity-least x (lt-left-number x (inf true) h)))
 
 pub le-lt-transitive : (x y z : Float) → le x y ≡ true → lt y z ≡ true → lt x z ≡ true
 unfolding le lt eq isNan
@@ -93,7 +89,7 @@ le-lt-transitive (fin s m e) (inf false) z h k = absurd (above-infinity z k)
 le-lt-transitive (fin s m e) (fin t n d) nan h k = absurd (false≢true k)
 le-lt-transitive (fin s m e) (fin t n d) (inf u) h k = k
 le-lt-transitive (fin s m e) (fin t n d) (fin u o g) h k =
-    signed-below s t u (m * up e) (n * up d) (o * up g) (down e) (down d) (down g) (down-pos e) (down-pos d) (down-pos g) (test-says s _ t _ (subst T (sym h) tt)) k
+    signed-below s t u (m * up e) (n * up d) (o * up g) (down e) (down d) (down g) (down-pos e) (down-pos d) (down-pos g) (signed-of-finite s m e t n d (subst T (sym h) tt)) k
 
 pub lt-le : (x y : Float) → lt x y ≡ true → le x y ≡ true
 unfolding le

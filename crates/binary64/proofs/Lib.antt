@@ -13,6 +13,7 @@ pub mod Convert
 pub mod ConvertSteps
 pub mod ConversionCases
 pub mod ConvertedSteps
+pub mod WholeNumbers
 pub mod NotNan
 pub mod Zeros
 pub mod Minimum

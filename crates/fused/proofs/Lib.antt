@@ -6,3 +6,4 @@ pub mod Outcomes
 pub mod Special
 pub mod Sign
 pub mod Halves
+pub mod Monotone

@@ -18,7 +18,7 @@ use lib.Ieee.Order.{round-mono}
 use lib.Ieee.Positive.{first-pos, above, above-of-le}
 use lib.Ieee.Scale.{finite}
 use Rattle.binary64.proofs.Flags.{or-either}
-use Rattle.binary64.proofs.FloatOrder.{lt-asymmetric, le-of-not-lt}
+use Rattle.binary64.proofs.FloatOrder.{signs-apart, lt-asymmetric, le-of-not-lt}
 use Rattle.binary64.proofs.Integral.{significand-bound}
 use Rattle.binary64.proofs.Negation.{neg-round}
 use Rattle.binary64.proofs.NotNan.{Signed, infinite, number, signed-not-nan, round-signed}
@@ -98,20 +98,9 @@ unfolding lt neg
 neg-lt-right m e infinite = refl
 neg-lt-right m e (number n d) = refl
 
--- nothing from 0 up is below a value down from 0
-not-below-negative : {r : Float} (m : ℕ) (e : ℤ) → Signed false r → lt r (fin true m e) ≡ false
-unfolding lt
-not-below-negative m e infinite = refl
-not-below-negative m e (number n d) = refl
-
-not-above-positive : {r : Float} (m : ℕ) (e : ℤ) → Signed true r → lt (fin false m e) r ≡ false
-unfolding lt
-not-above-positive m e infinite = refl
-not-above-positive m e (number n d) = refl
-
 at-most-zero : {x : Float} → Signed true x → le x zeroF ≡ true
 unfolding isNan
-at-most-zero h = le-of-not-lt _ zeroF (signed-not-nan h) refl (not-above-positive 0 (pos 0) h)
+at-most-zero h = le-of-not-lt _ zeroF (signed-not-nan h) refl (signs-apart h (number 0 (pos 0)))
 
 above-zero : (x : Float) → T (above x) → le x zeroF ≡ false
 unfolding le lt
@@ -131,7 +120,7 @@ difference f s a c u m e = sum f s (a * down e) (not u) (m * up e * c) (c * down
 -- where the rounded fraction is below the value, the difference is not above 0
 difference-not-above : (f : Format) (s : Bool) (a c : ℕ) (u : Bool) (m : ℕ) (e : ℤ) → 0 < c → T (fits f (fin u m e)) → lt (round f s a c) (fin u m e) ≡ true → le (difference f s a c u m e) zeroF ≡ true
 difference-not-above f false a c false m e C t h = rw (sum-opposite-lt f false true (a * down e) (m * up e * c) (c * down e) false≢true (below-says f false a c m e C t h)) (at-most-zero (round-signed f true _ _))
-difference-not-above f false a c true m e C t h = absurd (true≢false (sym h ∙ not-below-negative m e (round-signed f false a c)))
+difference-not-above f false a c true m e C t h = absurd (true≢false (sym h ∙ signs-apart (number m e) (round-signed f false a c)))
 difference-not-above f true a c true m e C t h =
     let below : lt (neg (round f false a c)) (fin true m e) ≡ true = rw (neg-round f false a c) h in
     rw (sum-opposite-gt f true false (a * down e) (m * up e * c) (c * down e) true≢false (above-says f true a c m e C t (sym (neg-lt-left m e (round-signed f false a c)) ∙ below))) (at-most-zero (round-signed f true _ _))
@@ -215,7 +204,7 @@ difference-above s a c u m e P L A t h = go s u t h
         let less = below-says binary64 true a c m e C t (sym (neg-lt-right m e (round-signed binary64 false a c)) ∙ above) in
         rw (sum-opposite-lt binary64 true false (a * down e) (m * up e * c) (c * down e) true≢false less)
         (rounds-above (m * up e * c - a * down e) (c * down e) Z (le-trans (le-of-eq (mul-comm c (down e))) (fractions-apart (m * up e) (down e) a c (2 ^ 1074) (down-power e) P D L less)))
-    go true false t h = absurd (true≢false (sym h ∙ not-above-positive m e (round-signed binary64 true a c)))
+    go true false t h = absurd (true≢false (sym h ∙ signs-apart (round-signed binary64 true a c) (number m e)))
 
 -- ---- a product that is not tiny
 -- 2 ^ -900
@@ -237,9 +226,9 @@ few-digits m n (negsuc i) (negsuc j) M N E D h =
 
 not-tiny : (s : Bool) (a c : ℕ) → (lt leastProduct (round binary64 s a c) || lt (round binary64 s a c) (neg leastProduct)) ≡ true → lt leastProduct (round binary64 false a c) ≡ true
 unfolding neg
-not-tiny false a c h = or-either _ _ h (λ l. l) (λ l. absurd (true≢false (sym l ∙ not-below-negative 1 (negsuc 899) (round-signed binary64 false a c))))
+not-tiny false a c h = or-either _ _ h (λ l. l) (λ l. absurd (true≢false (sym l ∙ signs-apart (number 1 (negsuc 899)) (round-signed binary64 false a c))))
 not-tiny true a c h =
-    or-either _ _ h (λ l. absurd (true≢false (sym l ∙ not-above-positive 1 (negsuc 899) (round-signed binary64 true a c))))
+    or-either _ _ h (λ l. absurd (true≢false (sym l ∙ signs-apart (round-signed binary64 true a c) (number 1 (negsuc 899)))))
     (λ l. sym (neg-lt-left 1 (negsuc 899) (round-signed binary64 false a c)) ∙ (rw (neg-round binary64 false a c) l))
 
 -- ---- the whole law

@@ -1,2 +1,3 @@
 pub mod Fused
 pub mod Operands
+pub mod FusedOrder

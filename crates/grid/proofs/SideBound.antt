@@ -1,25 +1,27 @@
 -- Bounds of the side of a grid, for every count from 1 to 65,536: from 2 to 420 for every factor that row 19 lets pass, and to 126 for 1.2. Assumes nothing.
 use Prim.Native.Nat.{ℕ, zero, suc, _+_, _*_, _/_, _^_, _≤_, _<_}
-use native.Mathlib.Nat.{zero-mul, one-mul, mul-one, add-mul, mul-add, mul-assoc, mul-left-comm, mul-pos, mul-comm, mul-le-mul, mul-le-mul-right, div-lt-iff-lt-mul}
+use native.Mathlib.Nat.{zero-mul, one-mul, mul-one, add-mul, mul-add, mul-assoc, mul-left-comm, mul-pos, mul-comm, mul-le-mul, mul-le-mul-right}
 use native.Mathlib.Omega.{arith}
 use mathlib.Core.Path.{_≡_, refl, sym, ap, subst, _∙_}
 use mathlib.Core.Bool.{Bool, true, false, not}
-use lib.Dec.{T, ltb, eqb, lt→ltb, ltb→lt, eqb→eq}
+use lib.Dec.{T, lt→ltb, ltb→lt}
 use lib.Pow.{pow-pos}
 use lib.IntN.{ℤ, pos, negsuc}
-use lib.Ieee.{Float, nan, inf, fin, binary64, low, size, up, down, lt, le, round, mul, div, ofInt, toUnsigned, fits, isNan}
+use lib.Ieee.{Float, nan, inf, fin, binary64, low, size, up, down, lt, le, round, mul, div, ofInt, fits, isNan}
+use lib.Ieee.Bits.{is-true}
 use lib.Ieee.Exact.{HasValue}
-use lib.Ieee.Back.{round-whole}
 use lib.Ieee.Order.{round-mono}
-use lib.Ieee.Fits.{up-pos, down-pos, and-l, div-fits, mul-fits}
+use lib.Ieee.Fits.{down-pos, div-fits, mul-fits}
 use lib.Ieee.Scale.{finite}
-use lib.Ieee.Positive.{num, den, den-pos, positive, positive-finite, value→cross, positive-of-value, le→cross, cross→le, values-of-le, between, mul-mono}
+use lib.Ieee.Positive.{num, den, den-pos, positive, positive-finite, le→cross, values-of-le, le-trans-positive, between, mul-mono}
 use Rattle.binary64.specs.Integral.{ceilOf}
 use Rattle.binary64.proofs.Integral.{ceil-not-below, ceil-least}
-use Rattle.binary64.proofs.Flags.{or-left}
 use Rattle.binary64.proofs.FloatOrder.{le-of-not-lt}
+use Rattle.binary64.proofs.SignedOrder.{signed-of-not-below, positive-not-below}
+use Rattle.binary64.proofs.WholeNumbers.{whole-positive, whole-monotone, to-unsigned-whole, to-unsigned-monotone, above-minus-one}
 use Rattle.sequences.proofs.Range.{and-split}
 use Rattle.rounding.proofs.Sum.{round-zero}
+use Rattle.rounding.proofs.Monotone.{div-monotone}
 use Rattle.root.specs.Root.{squareRoot, scaledRoot, rootInHalves, integerRoot}
 use Rattle.root.specs.Middle.{MiddleAtMostRoot, MiddleAtLeastRoot}
 use Rattle.root.proofs.Nearest.{squareRoot-finite, squareRoot-nearest}
@@ -30,59 +32,40 @@ use Rattle.grid.specs.Settings.{usualFactor, leastFactor, greatestFactor
 use Rattle.grid.specs.Cells.{sideAcross, sideOf}
 
 -- ---- the quotient by 6
-six-is : whole 6 ≡ fin false 3 (pos 1)
-unfolding ofInt round
-six-is = refl
+abbrev lowest : Float
+lowest = div binary64 (whole 1) (whole 6)
 
-div-six : (w : Float) → T (positive w) → div binary64 w (fin false 3 (pos 1)) ≡ round binary64 false (num w * 1) (3 * 2 * den w)
-unfolding div
-div-six nan p = absurd p
-div-six (inf s) p = absurd p
-div-six (fin true m e) p = absurd p
-div-six (fin false m e) p = refl
+abbrev highest : Float
+highest = div binary64 (whole greatestCount) (whole 6)
 
--- an eighth, and 10923
-lowest-is : round binary64 false 1 8 ≡ fin false 1 (negsuc 2)
-unfolding round
-lowest-is = refl
+-- the ends, by evaluation: from an eighth to 10923
+quotient-ends : T (positive lowest) × T (positive highest) × T (le (fin false 1 (negsuc 2)) lowest) × T (le highest (fin false 10923 (pos 0)))
+unfolding ofInt div round le
+quotient-ends = (tt, tt, tt, tt)
 
-highest-is : round binary64 false 10923 1 ≡ fin false 10923 (pos 0)
-unfolding round
-highest-is = refl
+pub quotient-grows : (n k : ℕ) → 1 ≤ n → n ≤ k → k ≤ greatestCount → T (le (div binary64 (whole n) (whole 6)) (div binary64 (whole k) (whole 6)))
+quotient-grows n k some grown few =
+    div-monotone binary64 (whole n) (whole k) (whole 6) (positive-finite (whole n) (whole-positive n some (omega arith))) (positive-finite (whole k) (whole-positive k (omega arith) (omega arith)))
+    (whole-positive 6 (omega arith) (omega arith)) (whole-monotone n k grown (omega arith))
 
 module _ (n : ℕ) (some : 1 ≤ n) (few : n ≤ greatestCount) where
   abbrev pub quotient : Float
   quotient = div binary64 (whole n) (whole 6)
 
-  whole-value : HasValue (whole n) false n 1
-  unfolding ofInt
-  whole-value = round-whole binary64 false n (omega arith)
+  above-lowest : T (le lowest quotient)
+  above-lowest = quotient-grows 1 n (omega arith) some few
 
-  whole-positive : T (positive (whole n))
-  whole-positive = positive-of-value (whole n) n 1 whole-value (omega arith)
-
-  pub whole-cross : num (whole n) * 1 ≡ n * den (whole n)
-  whole-cross = value→cross (whole n) n 1 whole-value
-
-  pub quotient-is : quotient ≡ round binary64 false (num (whole n) * 1) (3 * 2 * den (whole n))
-  quotient-is = ap (λ (x : Float). div binary64 (whole n) x) six-is ∙ div-six (whole n) whole-positive
-
-  pub quotient-above : T (le (fin false 1 (negsuc 2)) quotient)
-  quotient-above =
-      subst (λ (z : Float). T (le (fin false 1 (negsuc 2)) z)) (sym quotient-is)
-      (subst (λ (z : Float). T (le z (round binary64 false (num (whole n) * 1) (3 * 2 * den (whole n))))) lowest-is
-      (round-mono binary64 1 8 (num (whole n) * 1) (3 * 2 * den (whole n)) (omega arith) (omega (arith, den-pos (whole n)))
-      (omega (arith, whole-cross, mul-le-mul-right (den (whole n)) some))))
-
-  pub quotient-below : T (le quotient (fin false 10923 (pos 0)))
-  quotient-below =
-      subst (λ (z : Float). T (le z (fin false 10923 (pos 0)))) (sym quotient-is)
-      (subst (λ (z : Float). T (le (round binary64 false (num (whole n) * 1) (3 * 2 * den (whole n))) z)) highest-is
-      (round-mono binary64 (num (whole n) * 1) (3 * 2 * den (whole n)) 10923 1 (omega (arith, den-pos (whole n))) (omega arith)
-      (omega (arith, whole-cross, mul-le-mul-right (den (whole n)) few))))
+  below-highest : T (le quotient highest)
+  below-highest = quotient-grows n greatestCount some few (omega arith)
 
   pub quotient-positive : T (positive quotient)
-  quotient-positive = between (fin false 1 (negsuc 2)) quotient (fin false 10923 (pos 0)) tt tt quotient-above quotient-below
+  quotient-positive = between lowest quotient highest (quotient-ends .0) (quotient-ends .1) above-lowest below-highest
+
+  pub quotient-above : T (le (fin false 1 (negsuc 2)) quotient)
+  quotient-above = le-trans-positive (fin false 1 (negsuc 2)) lowest quotient tt (quotient-ends .0) quotient-positive (quotient-ends .2) above-lowest
+
+  pub quotient-below : T (le quotient (fin false 10923 (pos 0)))
+  quotient-below = le-trans-positive quotient highest (fin false 10923 (pos 0)) quotient-positive (quotient-ends .1) tt below-highest (quotient-ends .3)
 
 -- ---- the root
 round-not-below : (a b : ℕ) → 0 < b → T (le zeroFloat (round binary64 false a b))
@@ -103,24 +86,14 @@ root-not-below (fin true m e) p = absurd p
 root-not-below (fin false zero e) p = absurd p
 root-not-below (fin false (suc m) e) p = scaled-not-below (suc m * up e * 2 ^ (low binary64 + low binary64) / down e)
 
-positive-not-below : (x : Float) → T (positive x) → T (le zeroFloat x)
-unfolding le lt
-positive-not-below nan p = absurd p
-positive-not-below (inf s) p = absurd p
-positive-not-below (fin true m e) p = absurd p
-positive-not-below (fin false m e) p =
-    let size : 0 < m * up e = mul-pos (ltb→lt 0 m p) (up-pos e) in
-    or-left (ltb (0 * 1 * down e) (m * up e * 1)) _ (lt→ltb (0 * 1 * down e) (m * up e * 1) (omega (arith, zero-mul (down e))))
-
 -- the size of a finite value from 0 up that is below v, or above it
 below-size : (q : Float) (n : ℕ) (e : ℤ) → T (finite q) → T (le zeroFloat q) → T (lt q (fin false n e)) → num q * down e < n * up e * den q
-unfolding le lt
+unfolding lt
 below-size nan n e t z h = absurd t
 below-size (inf s) n e t z h = absurd t
 below-size (fin false m d) n e t z h = ltb→lt (m * up d * down e) (n * up e * down d) h
 below-size (fin true m d) n e t z h =
-    let none : 0 * 1 * down d ≡ m * up d * 1 = eqb→eq (0 * 1 * down d) (m * up d * 1) (and-l (eqb (0 * 1 * down d) (m * up d * 1)) (eqb (0 * 1 * down d) 0) z) in
-    let size : m * up d ≡ 0 = omega (arith, zero-mul (down d)) in
+    let size : m * up d ≡ 0 = omega (arith, signed-of-not-below (fin true m d) true (m * up d) (down d) (refl, refl) z) in
     let cross : m * up d * down e ≡ 0 = ap (λ (k : ℕ). k * down e) size ∙ zero-mul (down e) in
     let some : 0 < m * up d * down e + n * up e * down d = ltb→lt 0 (m * up d * down e + n * up e * down d) h in
     omega arith
@@ -156,9 +129,6 @@ root-not-under p q a b hq hb hp ha h =
     let some-a : 0 < a = omega arith in
     let some : 0 < q * q * a = mul-pos (mul-pos hq hq) some-a in
     omega arith
-
-pub le-self : (x : Float) → T (positive x) → T (le x x)
-le-self x p = cross→le x x p p (omega arith)
 
 flag-false : (b : Bool) → (T b → ⊥) → b ≡ false
 flag-false true h = absurd (h tt)
@@ -234,7 +204,7 @@ pub record FactorReach (factor : Float) (greatest : ℕ) : Type 0 where
   pub greatest-small : greatest < 2 ^ 32
 
 pub usual-reach : FactorReach usualFactor 126
-unfolding mul round
+unfolding le mul round
 usual-reach = record {
   low = usualFactor;
   high = usualFactor;
@@ -244,8 +214,8 @@ usual-reach = record {
   high-positive = tt;
   bottom-positive = tt;
   top-positive = tt;
-  least = le-self usualFactor tt;
-  most = le-self usualFactor tt;
+  least = tt;
+  most = tt;
   bottom-is = refl;
   top-is = refl;
   top-value = (refl, refl);
@@ -304,24 +274,7 @@ module _ {factor : Float} {greatest : ℕ} (reach : FactorReach factor greatest)
         between across (ceilOf across) (reach .top) across-positive (reach .top-positive)
         (ceil-not-below across (mul-fits binary64 q factor) (subst (λ (b : Bool). T (not b)) (sym (finite-number across (positive-finite across across-positive))) tt)) ceil-most
 
--- a value above zero that is at most a whole number, converted
-converted-at-most : (x top : Float) (t : ℕ) → T (positive x) → T (positive top) → HasValue top false t 1 → T (le x top) → toUnsigned 64 x ≤ t
-unfolding toUnsigned
-converted-at-most nan top t p q v h = absurd p
-converted-at-most (inf s) top t p q v h = absurd p
-converted-at-most (fin true m e) top t p q v h = absurd p
-converted-at-most (fin false m e) top t p q v h =
-    let c : m * up e * 1 ≤ t * down e = values-of-le (fin false m e) top (m * up e) (down e) t 1 p q (refl, mul-comm (m * up e) (down e) ∙ mul-comm (down e) (m * up e)) v h in
-    let d : m * up e / down e < suc t = div-lt-iff-lt-mul (down-pos e) .1 (omega (arith, down-pos e, add-mul 1 t (down e))) in
-    omega arith
-
-converts-above : (x : Float) → T (positive x) → T (lt (fin true 1 (pos 0)) x)
-unfolding lt
-converts-above nan p = absurd p
-converts-above (inf s) p = absurd p
-converts-above (fin true m e) p = absurd p
-converts-above (fin false m e) p = lt→ltb 0 (1 * 1 * down e + m * up e * 1) (omega (arith, down-pos e))
-
+-- a value above zero that is at most a small whole number lies in the range that the conversion asks for
 converts-below : (x top : Float) (t : ℕ) → T (positive x) → T (positive top) → HasValue top false t 1 → t < 2 ^ 32 → T (le x top) → T (lt x (fin false 1 (pos 64)))
 unfolding lt
 converts-below nan top t p q v small h = absurd p
@@ -360,11 +313,14 @@ module _ {factor : Float} {greatest : ℕ} (reach : FactorReach factor greatest)
 
   -- the ceiling lies in the range that the conversion to an unsigned number asks for
   pub side-converts : T (lt (fin true 1 (pos 0)) sideFloat) × T (lt sideFloat (fin false 1 (pos 64)))
-  side-converts = (converts-above sideFloat (side-float .0), converts-below sideFloat (reach .top) greatest (side-float .0) (reach .top-positive) (reach .top-value) (reach .greatest-small) (side-float .1))
+  side-converts = (above-minus-one sideFloat (is-true _ (positive-not-below sideFloat (side-float .0))), converts-below sideFloat (reach .top) greatest (side-float .0) (reach .top-positive) (reach .top-value) (reach .greatest-small) (side-float .1))
 
   pub side-within : 2 ≤ greatest → (2 ≤ sideOf factor n) × (sideOf factor n ≤ greatest)
   unfolding sideOf
-  side-within two = let c = converted-at-most sideFloat (reach .top) greatest (side-float .0) (reach .top-positive) (reach .top-value) (side-float .1) in (omega arith, omega arith)
+  side-within two =
+      let top-is = to-unsigned-whole 64 (reach .top) greatest (reach .top-value) (omega (arith, reach .greatest-small)) in
+      let most = to-unsigned-monotone 64 sideFloat (reach .top) (side-float .1) in
+      (omega arith, omega arith)
 
 pub side-bound : (factor : Float) (n : ℕ) → factorFits factor ≡ true → 1 ≤ n → n ≤ greatestCount → (2 ≤ sideOf factor n) × (sideOf factor n ≤ 420)
 side-bound factor n h some few = side-within (allowed-reach factor h) n some few (omega arith)

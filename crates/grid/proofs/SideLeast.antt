@@ -1,22 +1,24 @@
 -- The side of a grid in whole numbers: for every count from 1 to 65,536 it is the least g, 2 at least, with 6 * count ≤ 25 * g². Each of its steps keeps the order, and at both ends of each side's counts it is worked out.
 -- Assumes nothing.
 use Prim.Native.Nat.{ℕ, zero, suc, _+_, _-_, _*_, _/_, _^_, _≤_, _<_}
-use native.Mathlib.Nat.{le-trans, le-of-eq, mul-comm, mul-assoc, mul-left-comm, mul-right-comm, mul-le-mul, mul-le-mul-right}
+use native.Mathlib.Nat.{le-trans, le-of-eq, mul-right-comm, mul-le-mul, mul-le-mul-right}
 use native.Mathlib.Omega.{arith}
 use mathlib.Core.Path.{_≡_, refl, sym, subst}
 use mathlib.Core.Logic.{inl, inr}
 use mathlib.Core.Bool.{Bool, true, false, not, _&&_, _||_, cond}
 use lib.Dec.{T, leb, ltb, eqb}
 use lib.Pow.{pow-pos}
-use lib.Ieee.{Float, nan, inf, fin, binary64, low, size, up, down, le, round, mul, div, ofInt, toUnsigned, fits}
+use lib.Ieee.{Float, nan, inf, fin, binary64, low, size, up, down, le, mul, div, ofInt, toUnsigned, fits}
 use lib.Ieee.Nearest.{div-mono}
 use lib.Ieee.Order.{round-mono}
 use lib.Ieee.Fits.{down-pos, div-fits, mul-fits}
-use lib.Ieee.Positive.{num, den, den-pos, positive, positive-finite, own-value, le→cross, le-trans-positive, mul-mono}
+use lib.Ieee.Positive.{num, den, den-pos, positive, positive-finite, own-value, le→cross, le-trans-positive}
 use borrow.Author.Tests.{eqb-true, eqb-false, eq-eqb, ne-eqb, lt-ltb, le-ltb}
 use Rattle.binary64.specs.Integral.{ceilOf, roundToIntegral}
 use Rattle.binary64.proofs.Integral.{integral-exact, ceil-not-below, ceil-least}
 use Rattle.binary64.proofs.Tests.{Tested, tested}
+use Rattle.binary64.proofs.WholeNumbers.{to-unsigned-monotone}
+use Rattle.rounding.proofs.Monotone.{mul-monotone}
 use Rattle.sequences.specs.Range.{allBelow}
 use Rattle.sequences.proofs.Range.{and-split, all-below-at}
 use Rattle.root.specs.Root.{squareRoot, scaledRoot, rootInHalves, integerRoot}
@@ -25,7 +27,7 @@ use Rattle.mesh.specs.Rows.{greatestCount}
 use Rattle.binary64.specs.Convert.{whole}
 use Rattle.grid.specs.Settings.{usualFactor}
 use Rattle.grid.specs.Cells.{sideOf}
-use Rattle.grid.proofs.SideBound.{whole-cross, quotient, quotient-is, quotient-positive, quotient-above, quotient-below, root-at-most, root-at-least, root-positive, across-positive, ceil-positive, finite-number, le-self, usual-reach, usual-side-bound}
+use Rattle.grid.proofs.SideBound.{quotient, quotient-grows, quotient-positive, quotient-above, quotient-below, root-at-most, root-at-least, root-positive, across-positive, ceil-positive, finite-number, usual-reach, usual-side-bound}
 
 -- ---- the root keeps the order
 at-most : (b : Bool) (r : ℕ) → cond b (2 * r) (2 * r + 1) ≤ 2 * r + 1
@@ -83,39 +85,13 @@ root-grows (fin false (suc m) e) (fin false (suc n) d) p q h =
     (div-mono (suc m * up e * u) (down e) (suc n * up d * u) (down d) (down-pos e) (down-pos d)
     (le-trans (le-of-eq (mul-right-comm (suc m * up e) u (down d))) (le-trans (mul-le-mul-right u (le→cross (fin false (suc m) e) (fin false (suc n) d) p q h)) (le-of-eq (mul-right-comm (suc n * up d) (down e) u)))))
 
--- ---- the ceiling and the conversion keep it
+-- ---- the ceiling keeps it
 ceil-grows : (x y : Float) → T (fits binary64 x) → T (fits binary64 y) → T (positive x) → T (positive y) → T (positive (ceilOf y)) → T (le x y) → T (le (ceilOf x) (ceilOf y))
 ceil-grows x y fx fy px py pc h =
     ceil-least x (ceilOf y) false _ fx (integral-exact _ y false (num y) (den y) fy (den-pos y) (own-value y py))
     (le-trans-positive x y (ceilOf y) px py pc h (ceil-not-below y fy (subst (λ (b : Bool). T (not b)) (sym (finite-number y (positive-finite y py))) tt)))
 
-conversion-grows : (x y : Float) → T (positive x) → T (positive y) → T (le x y) → toUnsigned 64 x ≤ toUnsigned 64 y
-unfolding toUnsigned
-conversion-grows nan y p q h = absurd p
-conversion-grows (inf s) y p q h = absurd p
-conversion-grows (fin true m e) y p q h = absurd p
-conversion-grows (fin false m e) nan p q h = absurd q
-conversion-grows (fin false m e) (inf s) p q h = absurd q
-conversion-grows (fin false m e) (fin true n d) p q h = absurd q
-conversion-grows (fin false m e) (fin false n d) p q h = let z = div-mono (m * up e) (down e) (n * up d) (down d) (down-pos e) (down-pos d) (le→cross (fin false m e) (fin false n d) p q h) in omega arith
-
--- a / c is n and b / d is k
-crossed : (n k a c b d : ℕ) → n ≤ k → a ≡ n * c → b ≡ k * d → a * (3 * 2 * d) ≤ b * (3 * 2 * c)
-crossed n k a c b d h e f =
-    let z : n * (c * d * 6) ≤ k * (c * d * 6) = mul-le-mul-right (c * d * 6) h in
-    rw (e, f) (le-trans (le-of-eq (let x : n * c * (3 * 2 * d) ≡ n * (c * d * 6) = simp (mul-assoc, mul-comm, mul-left-comm) (omega arith) in x)) (le-trans z (le-of-eq (let x : k * (c * d * 6) ≡ k * d * (3 * 2 * c) = simp (mul-assoc, mul-comm, mul-left-comm) (omega arith) in x))))
-
 module _ (n k : ℕ) (some : 1 ≤ n) (grown : n ≤ k) (few : k ≤ greatestCount) where
-  quotient-grows : T (le (quotient n some (le-trans grown few)) (quotient k (le-trans some grown) few))
-  quotient-grows =
-      let w = whole n in
-      let v = whole k in
-      let cw = whole-cross n some (le-trans grown few) in
-      let cv = whole-cross k (le-trans some grown) few in
-      subst (λ (z : Float). T (le z (quotient k (le-trans some grown) few))) (sym (quotient-is n some (le-trans grown few)))
-      (subst (λ (z : Float). T (le (round binary64 false (num w * 1) (3 * 2 * den w)) z)) (sym (quotient-is k (le-trans some grown) few))
-      (round-mono binary64 (num w * 1) (3 * 2 * den w) (num v * 1) (3 * 2 * den v) (omega (arith, den-pos w)) (omega (arith, den-pos v)) (crossed n k (num w * 1) (den w) (num v * 1) (den v) grown cw cv)))
-
   pub side-grows : sideOf usualFactor n ≤ sideOf usualFactor k
   unfolding sideOf
   side-grows =
@@ -135,12 +111,11 @@ module _ (n k : ℕ) (some : 1 ≤ n) (grown : n ≤ k) (few : k ≤ greatestCou
       let my = root-at-most y fy py (quotient-above k sv few) (quotient-below k sv few) in
       let a = mul binary64 (squareRoot binary64 x) usualFactor in
       let b = mul binary64 (squareRoot binary64 y) usualFactor in
-      let ab = mul-mono binary64 (squareRoot binary64 x) (squareRoot binary64 y) usualFactor usualFactor rx ry tt tt (root-grows x y px py quotient-grows) (le-self usualFactor tt) in
+      let ab = mul-monotone binary64 (squareRoot binary64 x) (squareRoot binary64 y) usualFactor tt (root-grows x y px py (quotient-grows n k some grown few)) in
       let pa = across-positive usual-reach (squareRoot binary64 x) rx lx mx in
       let pb = across-positive usual-reach (squareRoot binary64 y) ry ly my in
-      let ca = ceil-positive usual-reach (squareRoot binary64 x) rx lx mx in
       let cb = ceil-positive usual-reach (squareRoot binary64 y) ry ly my in
-      let c = conversion-grows (ceilOf a) (ceilOf b) ca cb (ceil-grows a b (mul-fits binary64 (squareRoot binary64 x) usualFactor) (mul-fits binary64 (squareRoot binary64 y) usualFactor) pa pb cb ab) in
+      let c = to-unsigned-monotone 64 (ceilOf a) (ceilOf b) (ceil-grows a b (mul-fits binary64 (squareRoot binary64 x) usualFactor) (mul-fits binary64 (squareRoot binary64 y) usualFactor) pa pb cb ab) in
       omega arith
 
 -- ---- the ends

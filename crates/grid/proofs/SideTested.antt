@@ -1,23 +1,22 @@
 -- Whether g is the side, as code tests it: by its range, `out-of-range`, and then by two comparisons and no ceiling, `side-between`. Assumes nothing.
-use Prim.Native.Nat.{ℕ, suc, _-_, _*_, _/_, _≤_, _<_}
-use native.Mathlib.Nat.{add-mul, le-div-iff-mul-le, div-lt-iff-lt-mul}
+use Prim.Native.Nat.{ℕ, _-_, _*_, _≤_, _<_}
 use native.Mathlib.Omega.{arith}
 use native.Mathlib.Decide.{decLt}
 use mathlib.Core.Path.{_≡_, refl, sym, subst}
 use mathlib.Core.Logic.{inl, inr}
 use mathlib.Core.Bool.{Bool, true, false, not, _&&_, _||_, true≢false}
 use lib.Dec.{T, ltb, eqb, ltb→lt}
-use lib.Ieee.{Float, nan, inf, fin, binary64, up, down, lt, le, div, ofInt, toUnsigned, fits}
+use lib.Ieee.{Float, nan, inf, fin, binary64, up, down, lt, le, div, toUnsigned, fits}
 use lib.Ieee.Exact.{HasValue}
 use lib.Ieee.Order.{le-of-values}
-use lib.Ieee.Back.{round-whole}
-use lib.Ieee.Fits.{down-pos, mul-fits}
-use lib.Ieee.Positive.{num, den, den-pos, positive, positive-finite, own-value, positive-of-value, le→cross, values-of-le, le-trans-positive}
+use lib.Ieee.Fits.{mul-fits}
+use lib.Ieee.Positive.{num, den, den-pos, positive, positive-finite, own-value, le→cross, values-of-le, le-trans-positive}
 use borrow.Author.Tests.{ltb-true, ltb-false, eq-eqb, ne-eqb}
 use Rattle.binary64.specs.Convert.{whole}
 use Rattle.binary64.proofs.Integral.{integral-exact, ceil-not-below, ceil-least}
 use Rattle.binary64.proofs.FloatOrder.{le-of-not-lt}
 use Rattle.binary64.proofs.Tests.{Tested, tested}
+use Rattle.binary64.proofs.WholeNumbers.{whole-value, whole-positive, to-unsigned-whole, whole-converted, to-unsigned-monotone}
 use Rattle.root.specs.Root.{squareRoot}
 use Rattle.mesh.specs.Rows.{greatestCount}
 use Rattle.grid.specs.Settings.{factorFits}
@@ -52,15 +51,6 @@ less→cross (fin false m e) (inf t) p q h = absurd q
 less→cross (fin false m e) (fin true n d) p q h = absurd q
 less→cross (fin false m e) (fin false n d) p q h = ltb→lt (m * up e * down d) (n * up d * down e) h
 
--- a whole number, converted
-converted-whole : (x : Float) (w : ℕ) → HasValue x false w 1 → w ≤ 420 → toUnsigned 64 x ≡ w
-unfolding toUnsigned
-converted-whole (fin true m e) w v small = absurd (true≢false (v .0))
-converted-whole (fin false m e) w v small =
-    let low : w ≤ m * up e / down e = le-div-iff-mul-le (down-pos e) .1 (omega (arith, v .1)) in
-    let high : m * up e / down e < suc w = div-lt-iff-lt-mul (down-pos e) .1 (omega (arith, v .1, down-pos e, add-mul 1 w (down e))) in
-    omega arith
-
 module _ (factor : Float) (allowed : factorFits factor ≡ true) (n : ℕ) (some : 1 ≤ n) (few : n ≤ greatestCount) where
   abbrev across : Float
   across = sideAcross factor n
@@ -83,21 +73,19 @@ module _ (factor : Float) (allowed : factorFits factor ≡ true) (n : ℕ) (some
       let v = integral-exact _ across false (num across) (den across) across-fits (den-pos across) (own-value across across-is-positive) in
       let r = allowed-reach factor allowed in
       let most = values-of-le ceiling (r .top) _ 1 420 1 ceiling-positive (r .top-positive) v (r .top-value) (side-float r n some few .1) in
-      subst (λ (w : ℕ). HasValue ceiling false w 1) (sym (converted-whole ceiling _ v (omega arith))) v
+      subst (λ (w : ℕ). HasValue ceiling false w 1) (sym (to-unsigned-whole 64 ceiling _ v (omega arith))) v
 
   module _ (k : ℕ) (low : 1 ≤ k) (high : k ≤ greatestSide) where
     k-value : HasValue (whole k) false k 1
-    unfolding ofInt
-    k-value = round-whole binary64 false k (omega arith)
+    k-value = whole-value k (omega arith)
 
     k-positive : T (positive (whole k))
-    k-positive = positive-of-value (whole k) k 1 k-value low
+    k-positive = whole-positive k low (omega arith)
 
     at-most : T (le across (whole k)) → toUnsigned 64 ceiling ≤ k
     at-most h =
         let below = ceil-least across (whole k) false k across-fits k-value h in
-        let c = values-of-le ceiling (whole k) (toUnsigned 64 ceiling) 1 k 1 ceiling-positive k-positive whole-ceiling k-value below in
-        omega arith
+        omega (arith, whole-converted k (omega arith), to-unsigned-monotone 64 ceiling (whole k) below)
 
     above : T (lt (whole k) across) → k < toUnsigned 64 ceiling
     above h = go (decLt k (toUnsigned 64 ceiling))

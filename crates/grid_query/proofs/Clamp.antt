@@ -1,25 +1,21 @@
--- Laws of a clamped conversion: what is clamped to 0..n converts to a whole number from 0 to n. Assumes nothing.
-use Prim.Native.Nat.{ℕ, suc, _+_, _-_, _*_, _/_, _^_, _≤_, _<_, zero-le}
+-- Laws of a clamped conversion: what is clamped to 0..n converts to a whole number from 0 to n, and the order is kept. Assumes nothing.
+use Prim.Native.Nat.{ℕ, suc, _+_, _-_, _*_, _/_, _^_, _≤_, _<_, min, zero-le}
 use native.Mathlib.Nat.{mul-one, mul-right-comm, mul-le-mul-right, le-of-mul-le-mul-right, div-lt-iff-lt-mul}
 use native.Mathlib.Omega.{arith}
-use mathlib.Core.Path.{_≡_, refl, sym, ap, _∙_}
+use mathlib.Core.Path.{_≡_, refl, sym, ap, _∙_, subst}
 use mathlib.Core.Bool.{Bool, true, false, cond, true≢false, false≢true}
-use lib.Dec.{T, eqb, lt→ltb}
+use lib.Dec.{T, lt→ltb}
 use lib.IntN.{pos}
-use lib.Ieee.{Float, nan, inf, fin, binary64, up, down, lt, le, ofInt, toUnsigned, isNan}
+use lib.Ieee.{Float, nan, inf, fin, up, down, lt, le, toUnsigned, isNan}
 use lib.Ieee.Fits.{down-pos}
 use lib.Ieee.Exact.{HasValue}
-use lib.Ieee.Back.{round-whole}
-use borrow.Author.Tests.{ltb-false, le-ltb, eqb-true}
-use Rattle.sequences.proofs.Range.{and-split}
-use Rattle.binary64.proofs.FloatOrder.{le-of-not-lt}
+use borrow.Author.Tests.{ltb-false, le-ltb}
+use Rattle.binary64.proofs.FloatOrder.{lt-not-le, le-of-not-lt}
+use Rattle.binary64.proofs.LessThan.{lt-le}
+use Rattle.binary64.proofs.WholeNumbers.{whole-value, whole-converted, to-unsigned-monotone}
 use Rattle.grid.specs.CubeFace.{zeroFloat}
 use Rattle.binary64.specs.Convert.{whole}
 use Rattle.grid_query.specs.Cell.{clampedCell}
-
-whole-value : (n : ℕ) → n ≤ 2 ^ 53 → HasValue (whole n) false n 1
-unfolding ofInt
-whole-value n h = round-whole binary64 false n h
 
 -- no positive number above n
 abbrev pub AtMost : ℕ → Float → Type 0
@@ -69,24 +65,7 @@ at-most-converts w n (fin false m e) v =
     let q : m * up e / down e < suc n = div-lt-iff-lt-mul (down-pos e) .1 below in
     omega arith
 
--- "clamps to 0..g − 1": a clamped conversion is a row or a column of cells
-pub clamped-below : (g : ℕ) (x : Float) → 0 < g → g ≤ 2 ^ 53 → clampedCell g x < g
-unfolding clampedCell
-clamped-below g x p h =
-    let r : clampedCell g x ≤ g - 1 = at-most-converts 64 (g - 1) _ (clamp-at-most (g - 1) x (omega arith)) in
-    omega arith
-
--- ---- what a conversion that drops the fraction asks for
-pub above-minus-one : (x : Float) → le zeroFloat x ≡ true → T (lt (fin true 1 (pos 0)) x)
-unfolding le
-above-minus-one nan h = absurd (false≢true h)
-above-minus-one (inf true) h = absurd (false≢true h)
-above-minus-one (inf false) h = tt
-above-minus-one (fin true m e) h =
-    let zero : 0 * 1 * down e ≡ m * up e * 1 = eqb-true (0 * 1 * down e) (m * up e * 1) (and-split (eqb (0 * 1 * down e) (m * up e * 1)) _ h .0) in
-    lt→ltb (m * up e * 1) (1 * down e) (omega (arith, down-pos e))
-above-minus-one (fin false m e) h = lt→ltb 0 (1 * down e + m * up e * 1) (omega (arith, down-pos e))
-
+-- ---- what a conversion that drops the fraction asks for, beside `above-minus-one`
 pub below-word : (n : ℕ) (x : Float) → n < 2 ^ 64 → AtMost n x → le zeroFloat x ≡ true → T (lt x (fin false 1 (pos 64)))
 unfolding le
 below-word n nan l v h = absurd (false≢true h)
@@ -106,3 +85,24 @@ not-positive-converts w (inf false) h = absurd (true≢false h)
 not-positive-converts w (fin true m e) h = refl
 not-positive-converts w (fin false m e) h =
     absurd (true≢false (sym (le-of-not-lt zeroFloat (fin false m e) refl refl (le-ltb (m * up e * 1) (0 * 1 * down e) (omega arith))) ∙ h))
+
+-- ---- "clamps to 0..g − 1 before it converts": the same as converted, and then cut to at most g − 1
+pub clamped-is-cut : (g : ℕ) (x : Float) → g ≤ 2 ^ 53 → clampedCell g x ≡ min (toUnsigned 64 x) (g - 1)
+unfolding clampedCell
+clamped-is-cut g x h = go (lt x zeroFloat) (lt top x) refl refl (clamp-at-most (g - 1) x (omega arith))
+  where
+    top : Float
+    top = whole (g - 1)
+
+    go : (s t : Bool) → lt x zeroFloat ≡ s → lt top x ≡ t → AtMost (g - 1) (cond s zeroFloat (cond t top x)) → toUnsigned 64 (cond s zeroFloat (cond t top x)) ≡ min (toUnsigned 64 x) (g - 1)
+    go true t below above a = omega (arith, at-most-converts 64 0 zeroFloat (zero-at-most 0), not-positive-converts 64 x (lt-not-le x zeroFloat below))
+    go false true below above a = omega (arith, whole-converted (g - 1) (omega arith), to-unsigned-monotone 64 top x (subst T (sym (lt-le top x above)) tt))
+    go false false below above a = omega (arith, at-most-converts 64 (g - 1) x a)
+
+-- so it is a row or a column of cells
+pub clamped-below : (g : ℕ) (x : Float) → 0 < g → g ≤ 2 ^ 53 → clampedCell g x < g
+clamped-below g x p h = omega (arith, clamped-is-cut g x h)
+
+-- and keeps the order
+pub clamped-monotone : (g : ℕ) (x y : Float) → g ≤ 2 ^ 53 → T (le x y) → clampedCell g x ≤ clampedCell g y
+clamped-monotone g x y h k = rw (clamped-is-cut g x h, clamped-is-cut g y h) (omega (arith, to-unsigned-monotone 64 x y k))

@@ -12,3 +12,4 @@ pub mod Distance
 pub mod NearestCandidate
 pub mod Cell
 pub mod KeptTriangle
+pub mod CellOrder

@@ -2,11 +2,13 @@
 use Prim.Native.Nat.{ℕ, suc, _<_}
 use native.Mathlib.Omega.{arith}
 use mathlib.Core.Path.{_≡_, refl, subst}
-use mathlib.Core.Bool.{Bool, true, false, cond, false≢true}
+use mathlib.Core.Bool.{Bool, true, false, cond}
 use mathlib.Core.List.{List, [], _∷_}
 use lib.ListN.{length, getD}
-use lib.Ieee.{Float, nan, inf, fin, lt}
+use lib.Ieee.{Float, inf, lt}
 use Rattle.sequences.specs.Starts.{blockPart}
+use Rattle.binary64.proofs.FloatOrder.{lt-left-number, infinity-least}
+use Rattle.binary64.proofs.LessThan.{le-lt-transitive}
 use Rattle.refusal.specs.declared.Refusal.{Refusal}
 use Rattle.refusal.specs.declared.Verdict.the-variants as verdict
 use Rattle.refusal.specs.Refusal.{refusal, refusalAt}
@@ -31,17 +33,7 @@ never-located reason triple weights least h = let z : _≡_ {A = ℕ} 0 1 = cc i
 
 -- what exceeds anything is above minus infinity
 exceeds-minus-infinity : (x y : Float) → lt x y ≡ true → lt (inf true) y ≡ true
-unfolding lt
-exceeds-minus-infinity nan y h = absurd (false≢true h)
-exceeds-minus-infinity (inf s) nan h = absurd (false≢true h)
-exceeds-minus-infinity (inf true) (inf true) h = absurd (false≢true h)
-exceeds-minus-infinity (inf false) (inf true) h = absurd (false≢true h)
-exceeds-minus-infinity (inf s) (inf false) h = refl
-exceeds-minus-infinity (inf s) (fin t n d) h = refl
-exceeds-minus-infinity (fin s m e) nan h = absurd (false≢true h)
-exceeds-minus-infinity (fin s m e) (inf true) h = absurd (false≢true h)
-exceeds-minus-infinity (fin s m e) (inf false) h = refl
-exceeds-minus-infinity (fin s m e) (fin t n d) h = refl
+exceeds-minus-infinity x y h = le-lt-transitive (inf true) x y (infinity-least x (lt-left-number x y h)) h
 
 -- a triangle that was located in a mesh of n vertices
 pub record LocatedFacts (n : ℕ) (triple : Triple) (weights : Weights) (least : Float) : Type 0 where

@@ -25,12 +25,19 @@ use Rattle.grid.specs.Stored.{storedRows}
 unfoldable pub clampedCell : ℕ → Float → ℕ
 clampedCell g x = toUnsigned 64 (cond (lt x zeroFloat) zeroFloat (cond (lt (whole (g - 1)) x) (whole (g - 1)) x))
 
+-- "ci" and "cj" of what a face of the cube shows.
+abbrev pub ciOf : ℕ → Projected → ℕ
+ciOf g p = clampedCell g (acrossCells g (p .u) (p .d))
+
+abbrev pub cjOf : ℕ → Projected → ℕ
+cjOf g p = clampedCell g (acrossCells g (p .w) (p .d))
+
 -- The cell of a direction that is normalised already: "face·g·g + ci·g + cj".
 unfoldable pub cellOf : ℕ → Vector3 → ℕ
 cellOf g direction =
     let face = dominantFace direction in
     let p = faceProjection face direction in
-    face * (g * g) + (clampedCell g (acrossCells g (p .u) (p .d)) * g + clampedCell g (acrossCells g (p .w) (p .d)))
+    face * (g * g) + (ciOf g p * g + cjOf g p)
 
 -- "A query normalises its direction first".
 abbrev pub cellOfQuery : Grid → Vector3 → ℕ

@@ -2,7 +2,7 @@
 use mathlib.Core.Path.{_≡_, refl, sym, ap, _∙_, subst}
 use mathlib.Core.Logic.{_⊎_, inl, inr}
 use Prim.Native.Nat.{ℕ, zero, suc, _+_, _-_, _*_, _/_, _%_, _^_, _≤_, _<_, zero-le}
-use native.Mathlib.Nat.{pow-suc, mul-one, zero-mul, zero-lt-suc, le-trans, le-of-eq, le-of-lt, lt-irrefl, lt-of-le-of-lt, lt-of-lt-of-le, mul-comm, mul-assoc, mul-left-comm, mul-right-comm, mul-mul-mul-comm, mul-le-mul, mul-le-mul-right, mul-le-mul-left, mul-lt-mul-of-pos-right, mul-pos, add-mul, mul-div-cancel, mul-div-mul-right, le-of-mul-le-mul-right, lt-of-mul-lt-mul-right, one-mul}
+use native.Mathlib.Nat.{pow-suc, zero-mul, zero-lt-suc, le-trans, le-of-eq, le-of-lt, lt-irrefl, lt-of-le-of-lt, lt-of-lt-of-le, mul-comm, mul-assoc, mul-left-comm, mul-right-comm, mul-mul-mul-comm, mul-le-mul, mul-le-mul-right, mul-le-mul-left, mul-lt-mul-of-pos-right, mul-pos, add-mul, mul-div-cancel, mul-div-mul-right, le-of-mul-le-mul-right, lt-of-mul-lt-mul-right, one-mul}
 use native.Mathlib.Omega.{arith}
 use mathlib.Core.Bool.{Bool, true, false, _&&_, cond, true≢false}
 use lib.Dec.{T, leb, eqb, ltb, ltb→lt, lt→ltb, eqb→eq, lit≤}
@@ -10,11 +10,12 @@ use lib.IntN.{ℤ, pos}
 use lib.Pow.{pow-add, pow-pos, pow-mono}
 use lib.Ieee.{Float, nan, inf, fin, Format, binary32, binary64, prec, emax, low, size, up, down, below as beneath, lt, le, fits}
 use lib.Ieee.Digits.{size-lt}
-use lib.Ieee.Fits.{and-l, and-r, two, two-le-pos, up-pos, down-pos}
+use lib.Ieee.Fits.{and-r, two, two-le-pos, up-pos, down-pos}
 use lib.Ieee.Exact.{HasValue}
 use lib.Ieee.Order.{drop, kept}
 use lib.Ieee.Scale.{grid, finite}
 use lib.Ieee.Positive.{num, den, positive, value→cross}
+use Rattle.binary64.proofs.SignedOrder.{signed-of-not-below}
 use Rattle.rounding.proofs.RoundSticky.{pow-lt-back}
 use Rattle.rounding.specs.TiesToEven.{absDiff, InRange}
 use Rattle.rounding.proofs.NearestDigits.{absDiff-mul, even-pow, even-product, rounded-nearest, as-near-on-grid}
@@ -225,8 +226,7 @@ units-lt nv dv nq dq v q L l nv-is nq-is h =
 
 -- ---- comparisons of values from zero up
 zero-below : (n : ℕ) (d : ℤ) → T (le (fin false 0 (pos 0)) (fin true n d)) → n * up d ≡ 0
-unfolding le
-zero-below n d t = sym (mul-one (n * up d)) ∙ sym (eqb→eq (0 * 1 * down d) (n * up d * 1) (and-l (eqb (0 * 1 * down d) (n * up d * 1)) (eqb (0 * 1 * down d) 0) t)) ∙ zero-mul (down d)
+zero-below n d t = omega (arith, signed-of-not-below (fin true n d) true (n * up d) (down d) (refl, refl) t)
 
 no-negative : (m : ℕ) (e : ℤ) → T (le (fin false 0 (pos 0)) (fin true (suc m) e)) → ⊥
 no-negative m e t = lt-irrefl 0 (subst (λ (z : ℕ). 0 < z) (zero-below (suc m) e t) (mul-pos (zero-lt-suc m) (up-pos e)))

@@ -9,3 +9,4 @@ pub mod Normalise
 pub mod Finite
 pub mod NearestDigits
 pub mod TiesToEven
+pub mod Monotone

@@ -107,11 +107,11 @@ unfolding sumBelow
 sum-extensional f g zero h = refl
 sum-extensional f g (suc n) h = let a = sum-extensional f g n (λ i lt. h i (omega arith)) in let b = h n (omega arith) in omega arith
 
-pub sum-monotone : (f : ℕ → ℕ) (a b : ℕ) → a ≤ b → sumBelow f a ≤ sumBelow f b
+pub sum-below-monotone : (f : ℕ → ℕ) (a b : ℕ) → a ≤ b → sumBelow f a ≤ sumBelow f b
 unfolding sumBelow
-sum-monotone f zero b h = omega arith
-sum-monotone f (suc a) zero h = absurd (not-suc-le-zero h)
-sum-monotone f (suc a) (suc b) h = go (sum-monotone f (suc a) b) (last-or-below (suc a) (suc b) (omega arith))
+sum-below-monotone f zero b h = omega arith
+sum-below-monotone f (suc a) zero h = absurd (not-suc-le-zero h)
+sum-below-monotone f (suc a) (suc b) h = go (sum-below-monotone f (suc a) b) (last-or-below (suc a) (suc b) (omega arith))
   where
     go : (suc a ≤ b → sumBelow f (suc a) ≤ sumBelow f b) → (suc a ≡ suc b) ⊎ (suc a < suc b) → sumBelow f (suc a) ≤ sumBelow f (suc b)
     go below (inl e) = let q : sumBelow f (suc a) ≡ sumBelow f (suc b) = ap (sumBelow f) e in omega arith

@@ -14,7 +14,7 @@ use lib.Seq.{slice, length-slice, ext-getD, getD-append-add, getD-take, getD-dro
 use Rattle.sequences.specs.Range.{sumBelow}
 use Rattle.sequences.specs.Tabulate.{tabulate, block}
 use Rattle.sequences.specs.Starts.{concatenate, startOf, startsOf, part, blockPart, CompressedRows}
-use Rattle.sequences.proofs.Range.{last-or-below, sum-extensional, sum-monotone}
+use Rattle.sequences.proofs.Range.{last-or-below, sum-extensional, sum-below-monotone}
 use Rattle.sequences.proofs.Tabulate.{length-tabulate, tabulate-at, tabulate-unique, tabulate-elements, tabulate-extensional, getD-member, block-unique}
 
 module _ {A : Type 0} where
@@ -29,7 +29,7 @@ module _ {A : Type 0} where
 
   pub start-monotone : (f : ℕ → List A) (u v : ℕ) → u ≤ v → startOf f u ≤ startOf f v
   unfolding startOf
-  start-monotone f u v h = sum-monotone (λ k. length (f k)) u v h
+  start-monotone f u v h = sum-below-monotone (λ k. length (f k)) u v h
 
   pub start-extensional : (f g : ℕ → List A) (n : ℕ) → ((v : ℕ) → v < n → length (f v) ≡ length (g v)) → startOf f n ≡ startOf g n
   unfolding startOf

@@ -7,10 +7,11 @@ use Prim.Native.Nat.{_-_, _^_}
 use native.Mathlib.Omega.{arith}
 use lib.Dec.{le→leb}
 use lib.Ieee.{ofBits, inFloat, lt, toUnsigned}
+use Rattle.binary64.proofs.WholeNumbers.{above-minus-one}
 use Rattle.grid.specs.CubeFace.{zeroFloat}
 use Rattle.binary64.specs.Convert.{whole}
 use Rattle.grid_query.specs.Cell.{clampedCell}
-use Rattle.grid_query.proofs.Clamp.{AtMost, clamp-at-most, above-minus-one, below-word, not-positive-converts}
+use Rattle.grid_query.proofs.Clamp.{AtMost, clamp-at-most, below-word, not-positive-converts}
 use Rattle.grid_query.proofs.clamped_cell.Statement.{statement}
 use Rattle.grid_query.proofs.clamped_cell.Tie as tie
 
