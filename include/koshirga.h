@@ -221,7 +221,8 @@ koshirga_vector3 koshirga_normalize(koshirga_vector3 v);
 
 /* KOSHIRGA_ACCEPTED where v is accepted as a direction; KOSHIRGA_DIRECTION where a component isn't
  * finite (IEEE 754-2019, 5.7.2, isFinite) or koshirga_norm_squared(v) is outside 2^-40..2^40
- * (5.11), ends accepted. Positions of a mesh are tested likewise. */
+ * (5.11), ends accepted. Positions of a mesh are tested likewise. Where v is accepted,
+ * koshirga_normalize(v) is too. */
 uint32_t koshirga_direction(koshirga_vector3 v);
 
 /* ---- weights */
@@ -334,9 +335,10 @@ koshirga_vertex_answer koshirga_analytic_nearest(uint32_t frequency, const uint1
 
 /* Writes the lattice of a frequency from 1 to 80: 10n^2 + 2 vertices (three coordinates each), one
  * start more, 60n^2 entries, and the id table of 20(n + 1)(n + 2)/2 places; surplus places are
- * untouched. Its neighbour lists ascend, and the mark is set. Each operation on coordinates is
- * rounded by itself (IEEE 754-2019, 5.4.1 and 4.3.1). Gives a refusal's number or 0. Rows 1, 8
- * change nothing, the mark included. */
+ * untouched. Its neighbour lists ascend, and the mark is set. Without the surplus it passes the
+ * mesh rows of every call: 2 to 5, 17 and 18. Each operation on coordinates is rounded by itself
+ * (IEEE 754-2019, 5.4.1 and 4.3.1). Gives a refusal's number or 0. Rows 1, 8 change nothing, the
+ * mark included. */
 uint32_t koshirga_lattice(uint32_t frequency, double *positions, size_t positions_length,
                           uint32_t *starts, size_t starts_length, uint16_t *entries,
                           size_t entries_length, bool *lists_ascend, uint16_t *ids,

@@ -5,8 +5,9 @@ use crate::{ffi, AnalyticLattice, MeshData, MeshMut, Refusal};
 /// Writes the lattice of a frequency from 1 to 80: 10n² + 2 vertices with three coordinates each,
 /// as many starts and one more, 60n² entries, and the id table, 20 faces of (n + 1)(n + 2)/2 slots.
 /// Its neighbour lists ascend, and the mark is set. Each operation on coordinates is rounded by
-/// itself (IEEE 754-2019, 5.4.1 and 4.3.1). Surplus places are untouched. Rows 1 and 8 change
-/// nothing, the mark included.
+/// itself (IEEE 754-2019, 5.4.1 and 4.3.1). Surplus places are untouched; without them the lattice
+/// passes the mesh rows of every call: 2 to 5, 17 and 18. Rows 1 and 8 change nothing, the mark
+/// included.
 ///
 /// [`LatticeGeometry::new`](crate::LatticeGeometry::new) brings the slices itself.
 pub fn lattice_geometry(frequency: u32, mesh: MeshMut, ids: &mut [u16]) -> Result<(), Refusal> {

@@ -80,7 +80,8 @@ impl Vector3 {
 
     /// Whether the vector is accepted as a direction: finite components (IEEE 754-2019, 5.7.2,
     /// isFinite), and a [squared length](Vector3::norm_squared) from 2^−40 to 2^40, ends included
-    /// (5.11): so lengths from 2^−20 to 2^20, about 1e-6 to 1e6. Refused by row 9 otherwise.
+    /// (5.11): so lengths from 2^−20 to 2^20, about 1e-6 to 1e6. Refused by row 9 otherwise. What is
+    /// accepted is accepted again once it is [normalised](Vector3::normalize).
     pub fn check_direction(self) -> Result<(), Refusal> {
         Refusal::check(ffi::koshirga_direction(self))
     }
@@ -164,5 +165,22 @@ mod tests {
         }
         assert!(refused(Vector3::ZERO));
         assert!(refused(Vector3::new(1.0, 1.0, f64::NEG_INFINITY)));
+    }
+
+    /// At both ends too, and with components that vanish beside the length.
+    #[test]
+    fn accepted_again_when_normalized() {
+        for exponent in -20..=20 {
+            let x = 2f64.powi(exponent);
+            let equal = if exponent < 20 { x } else { x / 2.0 };
+            for v in [
+                Vector3::new(0.0, 0.0, -x),
+                Vector3::new(f64::MIN_POSITIVE, x, -0.0),
+                Vector3::new(equal, -equal, equal),
+            ] {
+                assert_eq!(v.check_direction(), Ok(()), "{v:?}");
+                assert_eq!(v.normalize().check_direction(), Ok(()), "{v:?}");
+            }
+        }
     }
 }

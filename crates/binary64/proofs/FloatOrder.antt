@@ -30,6 +30,12 @@ lt-right-number x nan h = absurd (false≢true (sym (lt-nan x) ∙ h))
 lt-right-number x (inf t) h = refl
 lt-right-number x (fin t n d) h = refl
 
+pub le-left-number : (x y : Float) → le x y ≡ true → isNan x ≡ false
+unfolding le eq isNan
+le-left-number nan y h = absurd (false≢true h)
+le-left-number (inf s) y h = refl
+le-left-number (fin s m e) y h = refl
+
 pub le-right-number : (x y : Float) → le x y ≡ true → isNan y ≡ false
 unfolding le eq isNan
 le-right-number nan nan h = absurd (false≢true h)

@@ -1,6 +1,6 @@
--- `lt` of floats is a strict order, and `le` lengthens it at either end: irreflexive and transitive, infinities and NaN included. Assumes nothing.
+-- `lt` of floats is a strict order, and `le` lengthens it at either end: irreflexive and transitive, infinities and NaN included. `le` is transitive too, and total on numbers. Assumes nothing.
 use mathlib.Core.Path.{_≡_, refl, sym, ap, _∙_, subst}
-use mathlib.Core.Logic.{inl, inr}
+use mathlib.Core.Logic.{_⊎_, inl, inr}
 use mathlib.Core.Bool.{Bool, true, false, true≢false, false≢true}
 use Prim.Native.Nat.{ℕ, zero, suc, _+_, _*_, _<_, _≤_}
 use native.Mathlib.Nat.{zero-lt-suc, eq-zero-or-pos, zero-mul, mul-pos}
@@ -8,10 +8,11 @@ use native.Mathlib.Omega.{arith}
 use borrow.Author.Tests.{ltb-true, lt-ltb}
 use lib.Dec.{T}
 use lib.Ieee.{Float, nan, inf, fin, up, down, below, lt, le, eq, isNan}
+use lib.Ieee.Bits.{is-true}
 use lib.Ieee.Fits.{down-pos}
 use lib.Ieee.Positive.{through, first-pos}
 use Rattle.binary64.proofs.Tests.{Tested, tested}
-use Rattle.binary64.proofs.FloatOrder.{lt-left-number, lt-right-number, le-right-number, infinity-least, infinity-greatest, lt-asymmetric, le-not-lt, le-of-not-lt}
+use Rattle.binary64.proofs.FloatOrder.{lt-left-number, lt-right-number, le-left-number, le-right-number, infinity-least, infinity-greatest, lt-asymmetric, le-not-lt, le-of-not-lt}
 use Rattle.binary64.proofs.SignedOrder.{SignedLe, signed-of-finite}
 
 pub lt-irreflexive : (x : Float) → lt x x ≡ false
@@ -104,3 +105,24 @@ lt-le-transitive x y z h k = decide (lt x z) refl
 
 pub lt-transitive : (x y z : Float) → lt x y ≡ true → lt y z ≡ true → lt x z ≡ true
 lt-transitive x y z h k = le-lt-transitive x y z (lt-le x y h) k
+
+pub le-transitive : (x y z : Float) → T (le x y) → T (le y z) → T (le x z)
+le-transitive x y z h k = subst T (sym (le-of-not-lt x z (le-left-number x y first) (le-right-number y z second) (decide (lt z x) refl))) tt
+  where
+    first : le x y ≡ true
+    first = is-true (le x y) h
+
+    second : le y z ≡ true
+    second = is-true (le y z) k
+
+    decide : (b : Bool) → lt z x ≡ b → lt z x ≡ false
+    decide true e = absurd (true≢false (sym (le-lt-transitive y z x second e) ∙ le-not-lt y x first))
+    decide false e = e
+
+-- Of two numbers one is at most the other.
+pub le-total : (x y : Float) → isNan x ≡ false → isNan y ≡ false → T (le x y) ⊎ T (le y x)
+le-total x y nx ny = decide (lt y x) refl
+  where
+    decide : (b : Bool) → lt y x ≡ b → T (le x y) ⊎ T (le y x)
+    decide true e = inr (subst T (sym (lt-le y x e)) tt)
+    decide false e = inl (subst T (sym (le-of-not-lt x y nx ny e)) tt)

@@ -15,6 +15,7 @@ pub mod ConversionCases
 pub mod ConvertedSteps
 pub mod WholeNumbers
 pub mod NotNan
+pub mod Absolute
 pub mod Zeros
 pub mod Minimum
 pub mod MinimumRank

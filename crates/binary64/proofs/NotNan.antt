@@ -1,16 +1,14 @@
--- Where the operations of IEEE 754-2019, 5.4.1 give no NaN: a rounded number is none (`round-not-nan`), a difference from a finite value is none (`sub-not-nan`), a quotient of a finite value by one above zero is none (`div-not-nan`).
+-- Where the operations of IEEE 754-2019, 5.4.1 give no NaN: a rounded number is none (`round-not-nan`), a difference from a finite value is none (`sub-not-nan`). A finite value is none (`finite-number`); what is finite: `value-finite`, `between-finite`, `signed-finite`.
 -- Squares and sums of them have the sign + and are none: `square-signed`, `add-signed`, `signed-not-nan`. Assumes nothing.
 use Prim.Native.Nat.{ℕ, zero, suc, _+_, _-_, _*_, _^_}
-use native.Mathlib.Omega.{arith}
 use mathlib.Core.Path.{_≡_, refl, subst⁻¹}
-use mathlib.Core.Bool.{Bool, true, false, _&&_, Bool·beq, cond, true≢false}
-use lib.Dec.{T, ltb, ltb→lt}
+use mathlib.Core.Bool.{Bool, true, false, not, _&&_, Bool·beq, cond, true≢false}
+use lib.Dec.{T, ltb}
 use lib.IntN.{ℤ}
-use lib.Ieee.{Float, nan, inf, fin, Format, low, prec, emax, odd, units, round, sum, add, sub, neg, mul, div, isNan}
+use lib.Ieee.{Float, nan, inf, fin, Format, low, prec, emax, odd, units, round, sum, add, sub, neg, mul, le, isNan}
+use lib.Ieee.Exact.{HasValue}
 use lib.Ieee.Fits.{round-is}
 use lib.Ieee.Scale.{finite}
-use lib.Ieee.Positive.{above}
-use borrow.Author.Tests.{ne-eqb}
 
 -- ---- a rounded number is no NaN, and has the sign it is given
 -- an infinity or a number of the sign s
@@ -38,6 +36,31 @@ units-signed f s q k = cond-signed (ltb (q * 2 ^ k) (2 ^ (low f + suc (emax f)))
 
 pub round-signed : (f : Format) (s : Bool) (a c : ℕ) → Signed s (round f s a c)
 round-signed f s a c = subst⁻¹ (Signed s) (round-is f s a c) (units-signed f s _ _)
+
+-- ---- finite values
+pub finite-number : (x : Float) → T (finite x) → isNan x ≡ false
+unfolding isNan
+finite-number (fin s m e) t = refl
+
+-- the same as a test
+pub finite-not-nan : (x : Float) → T (finite x) → T (not (isNan x))
+finite-not-nan x t = rw (finite-number x t) tt
+
+pub value-finite : (x : Float) (s : Bool) (a c : ℕ) → HasValue x s a c → T (finite x)
+value-finite (fin t m e) s a c h = tt
+
+-- What lies between two finite values is finite, and what has the sign + and is at most one.
+pub between-finite : (low x high : Float) → T (finite low) → T (finite high) → T (le low x) → T (le x high) → T (finite x)
+unfolding le
+between-finite (fin s m e) nan (fin t n d) L H h k = absurd k
+between-finite (fin s m e) (inf true) (fin t n d) L H h k = absurd h
+between-finite (fin s m e) (inf false) (fin t n d) L H h k = absurd k
+between-finite (fin s m e) (fin u o g) (fin t n d) L H h k = tt
+
+pub signed-finite : {x : Float} (b : Float) → Signed false x → T (finite b) → T (le x b) → T (finite x)
+unfolding le
+signed-finite (fin t n d) infinite B h = absurd h
+signed-finite (fin t n d) (number m e) B h = tt
 
 -- ---- the operations
 pub square-signed : (f : Format) (x : Float) → isNan x ≡ false → Signed false (mul f x x)
@@ -76,14 +99,3 @@ sub-not-nan f (inf s) (fin t n d) h k = refl
 sub-not-nan f (fin s m e) nan h k = absurd k
 sub-not-nan f (fin s m e) (inf t) h k = absurd k
 sub-not-nan f (fin s m e) (fin t n d) h k = sum-not-nan f s _ _ _ _
-
-pub div-not-nan : (f : Format) (x y : Float) → T (finite x) → T (above y) → isNan (div f x y) ≡ false
-unfolding div isNan
-div-not-nan f nan y h k = absurd h
-div-not-nan f (inf s) y h k = absurd h
-div-not-nan f (fin s m e) nan h k = absurd k
-div-not-nan f (fin s m e) (inf t) h k = refl
-div-not-nan f (fin s m e) (fin true n d) h k = absurd k
-div-not-nan f (fin s m e) (fin false n d) h k =
-    let positive-divisor = ltb→lt 0 n k in
-    rw (ne-eqb n 0 (λ e. omega arith)) (round-not-nan f _ _ _)

@@ -43,7 +43,7 @@ pub unlike-plus : (s : Bool) → unlike s false ≡ s
 unlike-plus true = refl
 unlike-plus false = refl
 
-zeros-level : (s t : Bool) → SignedLe s 0 t 0
+pub zeros-level : (s t : Bool) → SignedLe s 0 t 0
 zeros-level true true = le-refl 0
 zeros-level true false = tt
 zeros-level false true = le-refl 0

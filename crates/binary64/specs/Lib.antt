@@ -2,3 +2,4 @@ pub mod TotalOrder
 pub mod Integral
 pub mod Convert
 pub mod Minimum
+pub mod Absolute

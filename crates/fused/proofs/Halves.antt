@@ -13,10 +13,11 @@ use lib.Ieee.Exact.{HasValue, round-exact}
 use lib.Ieee.Fits.{down-pos}
 use Rattle.binary64.proofs.Flags.{or-either}
 use Rattle.binary64.proofs.Integral.{significand-bound}
+use Rattle.rounding.proofs.Exact.{scaled-below}
 use Rattle.rounding.proofs.Sum.{sum-same}
 use Rattle.rounding.proofs.TiesToEven.{in-units}
 use Rattle.fused.specs.Fused.{fusedMultiplyAdd, half}
-use Rattle.fused.proofs.Sign.{leastProduct, scaled-below}
+use Rattle.fused.proofs.Sign.{leastProduct}
 use Rattle.fused.proofs.Special.{special-factor-apart}
 
 -- a value above 2 ^ -900 is more than one unit, so that half of it is whole units

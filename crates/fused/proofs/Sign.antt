@@ -5,48 +5,33 @@ use mathlib.Core.Path.{_≡_, refl, sym, ap, _∙_, subst}
 use mathlib.Core.Logic.{_⊎_, inl, inr}
 use mathlib.Core.Bool.{Bool, true, false, not, _&&_, _||_, cond, true≢false, false≢true}
 use Prim.Native.Nat.{ℕ, zero, suc, _+_, _-_, _*_, _%_, _^_, _≤_, _<_, zero-le}
-use native.Mathlib.Nat.{zero-mul, one-mul, mul-one, mul-comm, mul-assoc, mul-right-comm, mul-pos, mul-le-mul, mul-le-mul-right, mul-lt-mul-of-pos-right, lt-of-mul-lt-mul-right, le-trans, le-of-eq, le-of-lt, lt-of-lt-of-le, lt-of-le-of-lt, suc-mul}
+use native.Mathlib.Nat.{zero-mul, one-mul, mul-one, mul-comm, mul-assoc, mul-right-comm, mul-pos, mul-le-mul, mul-le-mul-right, lt-of-mul-lt-mul-right, le-trans, le-of-eq, le-of-lt, lt-of-le-of-lt, suc-mul}
 use native.Mathlib.Omega.{arith}
 use borrow.Author.Tests.{le-ltb, ne-eqb}
 use lib.Dec.{T, leb, ltb, eqb, leb→le, ltb→lt, eqb→eq, lit≤}
 use lib.IntN.{ℤ, pos, negsuc}
 use lib.Pow.{pow-add, pow-pos, pow-mono}
 use lib.Ieee.{Float, nan, inf, fin, Format, binary64, prec, emax, low, up, down, unlike, round, sum, mul, add, neg, lt, le, fits, isNan}
-use lib.Ieee.Exact.{HasValue, round-exact}
+use lib.Ieee.Bits.{is-true}
 use lib.Ieee.Fits.{up-pos, down-pos, and-l, and-r}
 use lib.Ieee.Order.{round-mono}
 use lib.Ieee.Positive.{first-pos, above, above-of-le}
 use lib.Ieee.Scale.{finite}
 use Rattle.binary64.proofs.Flags.{or-either}
-use Rattle.binary64.proofs.FloatOrder.{signs-apart, lt-asymmetric, le-of-not-lt}
+use Rattle.binary64.proofs.FloatOrder.{signs-apart, lt-asymmetric, le-not-lt, le-of-not-lt}
 use Rattle.binary64.proofs.Integral.{significand-bound}
 use Rattle.binary64.proofs.Negation.{neg-round}
 use Rattle.binary64.proofs.NotNan.{Signed, infinite, number, signed-not-nan, round-signed}
-use Rattle.binary64.proofs.SignedOrder.{signed-of-le}
 use Rattle.words.proofs.Order.{lt-or-le}
 use Rattle.rounding.proofs.Sum.{sum-same-sign, sum-opposite-gt, sum-opposite-lt}
-use Rattle.rounding.proofs.TiesToEven.{in-units}
+use Rattle.rounding.proofs.Exact.{rounding-not-below, rounding-not-above}
 use Rattle.fused.specs.Fused.{fusedMultiplyAdd}
 use Rattle.fused.proofs.Special.{special-factor-apart}
 
 abbrev zeroF : Float
 zeroF = fin false 0 (pos 0)
 
--- ---- a value of the format is its own rounding
--- x / l is a / d, and below h
-pub scaled-below : (x d l h a : ℕ) → 0 < l → a * l ≡ x * d → a < h * d → x < l * h
-scaled-below x d l h a L e k =
-    lt-of-mul-lt-mul-right d
-    (lt-of-lt-of-le (subst (λ (z : ℕ). z < h * d * l) e (mul-lt-mul-of-pos-right k L)) (le-of-eq (mul-right-comm h d l ∙ ap (λ (z : ℕ). z * d) (mul-comm h l))))
-
-own-rounding : (f : Format) (s : Bool) (m : ℕ) (e : ℤ) → T (fits f (fin s m e)) → HasValue (round f false (m * up e) (down e)) false (m * up e) (down e)
-own-rounding f s m e t =
-    let u = in-units f s m e t in
-    let j = u .1 in
-    round-exact f false (m * up e) (down e) m j (down-pos e) (u .0)
-    (subst (λ (z : ℕ). m * 2 ^ j < z) (sym (pow-add 2 (low f) (suc (emax f)))) (scaled-below (m * 2 ^ j) (down e) (2 ^ low f) (2 ^ suc (emax f)) (m * up e) (pow-pos (low f)) (u .2) (significand-bound f s m e t .1)))
-    (u .2)
-
+-- ---- the denominator of a value
 denominator-bound : (f : Format) (s : Bool) (m : ℕ) (e : ℤ) → T (fits f (fin s m e)) → down e ≤ 2 ^ low f
 unfolding fits
 denominator-bound f s zero e t = le-trans (le-trans (le-of-eq (sym (one-mul (down e)))) (mul-le-mul-right (down e) (up-pos e))) (le-trans (le-of-eq (eqb→eq (up e * down e) 1 t)) (pow-pos (low f)))
@@ -59,27 +44,10 @@ denominator-bound f s (suc m) e t =
 -- ---- a fraction a / c and a value m * 2 ^ e: the rounded fraction lies on the same side of the value
 module _ (f : Format) (s : Bool) (a c m : ℕ) (e : ℤ) (C : 0 < c) (t : T (fits f (fin s m e))) where
   not-below : m * up e * c ≤ a * down e → lt (round f false a c) (fin false m e) ≡ false
-  unfolding lt
-  not-below h = go (round-signed f false a c) (round-mono f (m * up e) (down e) a c (down-pos e) C h)
-    where
-      go : {r : Float} → Signed false r → T (le (round f false (m * up e) (down e)) r) → lt r (fin false m e) ≡ false
-      go infinite k = refl
-      go (number n d) k =
-          le-ltb (n * up d * down e) (m * up e * down d) (signed-of-le (round f false (m * up e) (down e)) (fin false n d) false (m * up e) (down e) false (n * up d) (down d) (own-rounding f s m e t) (refl, refl) k)
+  not-below h = le-not-lt (round f false a c) (fin false m e) (is-true _ (rounding-not-below f s a c m e C t h))
 
   not-above : a * down e ≤ m * up e * c → lt (fin false m e) (round f false a c) ≡ false
-  unfolding lt le
-  not-above h = go (round-signed f false a c) (round-mono f a c (m * up e) (down e) C (down-pos e) h)
-    where
-      infinite-not : (x : Float) → HasValue x false (m * up e) (down e) → T (le (inf false) x) → ⊥
-      infinite-not nan v k = v
-      infinite-not (inf u) v k = v
-      infinite-not (fin u n d) v k = k
-
-      go : {r : Float} → Signed false r → T (le r (round f false (m * up e) (down e))) → lt (fin false m e) r ≡ false
-      go infinite k = absurd (infinite-not (round f false (m * up e) (down e)) (own-rounding f s m e t) k)
-      go (number n d) k =
-          le-ltb (m * up e * down d) (n * up d * down e) (signed-of-le (fin false n d) (round f false (m * up e) (down e)) false (n * up d) (down d) false (m * up e) (down e) (refl, refl) (own-rounding f s m e t) k)
+  not-above h = le-not-lt (fin false m e) (round f false a c) (is-true _ (rounding-not-above f s a c m e C t h))
 
   below-says : lt (round f false a c) (fin false m e) ≡ true → a * down e < m * up e * c
   below-says h = elim (lt-or-le (a * down e) (m * up e * c)) [ inl l ↦ l | inr l ↦ absurd (true≢false (sym h ∙ not-below l)) ]

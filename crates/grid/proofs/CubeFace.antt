@@ -11,8 +11,9 @@ use lib.Ieee.{Float, nan, inf, fin, neg, lt, le, up, down, below, level}
 use lib.Ieee.Fits.{up-pos}
 use borrow.Author.Tests.{lt-ltb, le-ltb, ne-eqb}
 use Rattle.sequences.specs.Range.{sumBelow}
+use Rattle.binary64.specs.Absolute.{abs}
 use Rattle.vector.specs.declared.Vector3.{Vector3}
-use Rattle.grid.specs.CubeFace.{faceProjection, absolute, zeroFloat}
+use Rattle.grid.specs.CubeFace.{faceProjection, zeroFloat}
 
 -- ---- a comparison does not see the sign of a zero
 zero-left : (t : Bool) (a b : ℕ) → a ≡ 0 → (below true a t b || level true a t b) ≡ (below false a t b || level false a t b)
@@ -55,10 +56,10 @@ abbrev pub magnitudeByTest : Float → Float
 magnitudeByTest x = cond (lt x zeroFloat) (neg x) x
 
 abbrev Magnitude : Float → Type 0
-Magnitude x = (magnitudeByTest x ≡ absolute x) ⊎ ((e : ℤ) × (magnitudeByTest x ≡ fin true 0 e) × (absolute x ≡ fin false 0 e))
+Magnitude x = (magnitudeByTest x ≡ abs x) ⊎ ((e : ℤ) × (magnitudeByTest x ≡ fin true 0 e) × (abs x ≡ fin false 0 e))
 
 magnitude-cases : (x : Float) → Magnitude x
-unfolding absolute lt neg
+unfolding abs lt neg
 magnitude-cases nan = inl refl
 magnitude-cases (inf false) = inl refl
 magnitude-cases (inf true) = inl refl
@@ -73,16 +74,16 @@ magnitude-cases (fin true (suc m) e) =
     let test : ltb 0 (suc m * up e * 1 + 0 * 1 * down e) ≡ true = lt-ltb 0 (suc m * up e * 1 + 0 * 1 * down e) (omega arith) in
     inl (rw test refl)
 
-left-alike : (x y : Float) → Magnitude x → le (magnitudeByTest x) y ≡ le (absolute x) y
+left-alike : (x y : Float) → Magnitude x → le (magnitudeByTest x) y ≡ le (abs x) y
 left-alike x y (inl e) = ap (λ (z : Float). le z y) e
 left-alike x y (inr z) = ap (λ (k : Float). le k y) (z .1) ∙ le-zero-left (z .0) y ∙ ap (λ (k : Float). le k y) (sym (z .2))
 
-right-alike : (x y : Float) → Magnitude y → le x (magnitudeByTest y) ≡ le x (absolute y)
+right-alike : (x y : Float) → Magnitude y → le x (magnitudeByTest y) ≡ le x (abs y)
 right-alike x y (inl e) = ap (λ (z : Float). le x z) e
 right-alike x y (inr z) = ap (λ (k : Float). le x k) (z .1) ∙ le-zero-right (z .0) x ∙ ap (λ (k : Float). le x k) (sym (z .2))
 
-pub magnitudes-compare : (x y : Float) → le (magnitudeByTest x) (magnitudeByTest y) ≡ le (absolute x) (absolute y)
-magnitudes-compare x y = left-alike x (magnitudeByTest y) (magnitude-cases x) ∙ right-alike (absolute x) y (magnitude-cases y)
+pub magnitudes-compare : (x y : Float) → le (magnitudeByTest x) (magnitudeByTest y) ≡ le (abs x) (abs y)
+magnitudes-compare x y = left-alike x (magnitudeByTest y) (magnitude-cases x) ∙ right-alike (abs x) y (magnitude-cases y)
 
 -- ---- of two opposite faces a point is in front of one at most
 -- of a number and its negation at most one is above 0

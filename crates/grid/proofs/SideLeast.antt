@@ -1,95 +1,38 @@
 -- The side of a grid in whole numbers: for every count from 1 to 65,536 it is the least g, 2 at least, with 6 * count ≤ 25 * g². Each of its steps keeps the order, and at both ends of each side's counts it is worked out.
 -- Assumes nothing.
-use Prim.Native.Nat.{ℕ, zero, suc, _+_, _-_, _*_, _/_, _^_, _≤_, _<_}
-use native.Mathlib.Nat.{le-trans, le-of-eq, mul-right-comm, mul-le-mul, mul-le-mul-right}
+use Prim.Native.Nat.{ℕ, _+_, _-_, _*_, _/_, _≤_, _<_}
+use native.Mathlib.Nat.{le-trans, mul-le-mul}
 use native.Mathlib.Omega.{arith}
 use mathlib.Core.Path.{_≡_, refl, sym, subst}
 use mathlib.Core.Logic.{inl, inr}
-use mathlib.Core.Bool.{Bool, true, false, not, _&&_, _||_, cond}
+use mathlib.Core.Bool.{Bool, true, false, _&&_, _||_}
 use lib.Dec.{T, leb, ltb, eqb}
-use lib.Pow.{pow-pos}
-use lib.Ieee.{Float, nan, inf, fin, binary64, low, size, up, down, le, mul, div, ofInt, toUnsigned, fits}
-use lib.Ieee.Nearest.{div-mono}
-use lib.Ieee.Order.{round-mono}
-use lib.Ieee.Fits.{down-pos, div-fits, mul-fits}
-use lib.Ieee.Positive.{num, den, den-pos, positive, positive-finite, own-value, le→cross, le-trans-positive}
-use borrow.Author.Tests.{eqb-true, eqb-false, eq-eqb, ne-eqb, lt-ltb, le-ltb}
+use lib.Ieee.{Float, binary64, le, mul, div, ofInt, toUnsigned, fits}
+use lib.Ieee.Fits.{mul-fits}
+use lib.Ieee.Positive.{num, den, den-pos, positive, positive-finite, own-value}
+use borrow.Author.Tests.{eqb-true, eq-eqb, ne-eqb, lt-ltb, le-ltb}
 use Rattle.binary64.specs.Integral.{ceilOf, roundToIntegral}
 use Rattle.binary64.proofs.Integral.{integral-exact, ceil-not-below, ceil-least}
+use Rattle.binary64.proofs.LessThan.{le-transitive}
+use Rattle.binary64.proofs.NotNan.{finite-not-nan}
+use Rattle.binary64.proofs.SignedOrder.{positive-not-below}
 use Rattle.binary64.proofs.Tests.{Tested, tested}
 use Rattle.binary64.proofs.WholeNumbers.{to-unsigned-monotone}
 use Rattle.rounding.proofs.Monotone.{mul-monotone}
 use Rattle.sequences.specs.Range.{allBelow}
 use Rattle.sequences.proofs.Range.{and-split, all-below-at}
-use Rattle.root.specs.Root.{squareRoot, scaledRoot, rootInHalves, integerRoot}
-use Rattle.root.proofs.IntegerRoot.{integer-root}
+use Rattle.root.specs.Root.{squareRoot}
+use Rattle.root.proofs.Monotone.{squareRoot-monotone}
 use Rattle.mesh.specs.Rows.{greatestCount}
-use Rattle.binary64.specs.Convert.{whole}
 use Rattle.grid.specs.Settings.{usualFactor}
 use Rattle.grid.specs.Cells.{sideOf}
-use Rattle.grid.proofs.SideBound.{quotient, quotient-grows, quotient-positive, quotient-above, quotient-below, root-at-most, root-at-least, root-positive, across-positive, ceil-positive, finite-number, usual-reach, usual-side-bound}
+use Rattle.grid.proofs.SideBound.{quotient, quotient-grows, quotient-positive, quotient-above, quotient-below, root-at-most, root-at-least, root-positive, across-positive, usual-reach, usual-side-bound}
 
--- ---- the root keeps the order
-at-most : (b : Bool) (r : ℕ) → cond b (2 * r) (2 * r + 1) ≤ 2 * r + 1
-at-most true r = omega arith
-at-most false r = omega arith
-
-at-least : (b : Bool) (r : ℕ) → 2 * r ≤ cond b (2 * r) (2 * r + 1)
-at-least true r = omega arith
-at-least false r = omega arith
-
--- one root for both: where the lesser has something left over, the greater has too
-same-root : (n k r : ℕ) → n ≤ k → r * r ≤ n → rootInHalves n r ≤ rootInHalves k r
-same-root n k r h a = go (eqb (r * r) n) (eqb (r * r) k) refl refl
-  where
-    go : (b c : Bool) → eqb (r * r) n ≡ b → eqb (r * r) k ≡ c → cond b (2 * r) (2 * r + 1) ≤ cond c (2 * r) (2 * r + 1)
-    go true c e f = at-least c r
-    go false false e f = omega arith
-    go false true e f = absurd (eqb-false (r * r) n e (omega (arith, eqb-true (r * r) k f)))
-
-halves-grow : (n k r q : ℕ) → n ≤ k → r * r ≤ n → k < (q + 1) * (q + 1) → rootInHalves n r ≤ rootInHalves k q
-halves-grow n k r q h a d = go (tested (r + 1) q) (tested r q)
-  where
-    go : Tested (r + 1) q → Tested r q → rootInHalves n r ≤ rootInHalves k q
-    go (inl less) t = le-trans (at-most (eqb (r * r) n) r) (le-trans (let z : 2 * r + 1 ≤ 2 * q = omega (arith, less .0) in z) (at-least (eqb (q * q) k) q))
-    go (inr more) (inr above) =
-        let s : q + 1 ≤ r = omega (arith, above .0) in
-        let beyond : (q + 1) * (q + 1) ≤ r * r = mul-le-mul s s in
-        absurd (let z : ⊥ = omega arith in z)
-    go (inr more) (inl level) =
-        let same : q ≡ r = omega (arith, more .0, level .0) in
-        subst (λ (z : ℕ). rootInHalves n r ≤ rootInHalves k z) (sym same) (same-root n k r h a)
-
-scaled-grows : (n k : ℕ) → n ≤ k → T (le (scaledRoot binary64 n) (scaledRoot binary64 k))
-unfolding scaledRoot
-scaled-grows n k h =
-    let l = 2 ^ (low binary64 + 1) in
-    let r = integer-root n in
-    let q = integer-root k in
-    round-mono binary64 (rootInHalves n (integerRoot (size n) n)) l (rootInHalves k (integerRoot (size k) k)) l (pow-pos (low binary64 + 1)) (pow-pos (low binary64 + 1))
-    (mul-le-mul-right l (halves-grow n k (integerRoot (size n) n) (integerRoot (size k) k) h (r .0) (q .1)))
-
-root-grows : (x y : Float) → T (positive x) → T (positive y) → T (le x y) → T (le (squareRoot binary64 x) (squareRoot binary64 y))
-unfolding squareRoot
-root-grows nan y p q h = absurd p
-root-grows (inf s) y p q h = absurd p
-root-grows (fin true m e) y p q h = absurd p
-root-grows (fin false zero e) y p q h = absurd p
-root-grows (fin false (suc m) e) nan p q h = absurd q
-root-grows (fin false (suc m) e) (inf s) p q h = absurd q
-root-grows (fin false (suc m) e) (fin true n d) p q h = absurd q
-root-grows (fin false (suc m) e) (fin false zero d) p q h = absurd q
-root-grows (fin false (suc m) e) (fin false (suc n) d) p q h =
-    let u = 2 ^ (low binary64 + low binary64) in
-    scaled-grows (suc m * up e * u / down e) (suc n * up d * u / down d)
-    (div-mono (suc m * up e * u) (down e) (suc n * up d * u) (down d) (down-pos e) (down-pos d)
-    (le-trans (le-of-eq (mul-right-comm (suc m * up e) u (down d))) (le-trans (mul-le-mul-right u (le→cross (fin false (suc m) e) (fin false (suc n) d) p q h)) (le-of-eq (mul-right-comm (suc n * up d) (down e) u)))))
-
--- ---- the ceiling keeps it
-ceil-grows : (x y : Float) → T (fits binary64 x) → T (fits binary64 y) → T (positive x) → T (positive y) → T (positive (ceilOf y)) → T (le x y) → T (le (ceilOf x) (ceilOf y))
-ceil-grows x y fx fy px py pc h =
+-- ---- the ceiling keeps the order
+ceil-grows : (x y : Float) → T (fits binary64 x) → T (fits binary64 y) → T (positive y) → T (le x y) → T (le (ceilOf x) (ceilOf y))
+ceil-grows x y fx fy py h =
     ceil-least x (ceilOf y) false _ fx (integral-exact _ y false (num y) (den y) fy (den-pos y) (own-value y py))
-    (le-trans-positive x y (ceilOf y) px py pc h (ceil-not-below y fy (subst (λ (b : Bool). T (not b)) (sym (finite-number y (positive-finite y py))) tt)))
+    (le-transitive x y (ceilOf y) h (ceil-not-below y fy (finite-not-nan y (positive-finite y py))))
 
 module _ (n k : ℕ) (some : 1 ≤ n) (grown : n ≤ k) (few : k ≤ greatestCount) where
   pub side-grows : sideOf usualFactor n ≤ sideOf usualFactor k
@@ -99,23 +42,15 @@ module _ (n k : ℕ) (some : 1 ≤ n) (grown : n ≤ k) (few : k ≤ greatestCou
       let sv = le-trans some grown in
       let x = quotient n some fw in
       let y = quotient k sv few in
-      let fx = div-fits binary64 (whole n) (whole 6) in
-      let fy = div-fits binary64 (whole k) (whole 6) in
-      let px = quotient-positive n some fw in
-      let py = quotient-positive k sv few in
-      let rx = root-positive x fx px (quotient-above n some fw) (quotient-below n some fw) in
-      let ry = root-positive y fy py (quotient-above k sv few) (quotient-below k sv few) in
-      let lx = root-at-least x fx px (quotient-above n some fw) (quotient-below n some fw) in
-      let ly = root-at-least y fy py (quotient-above k sv few) (quotient-below k sv few) in
-      let mx = root-at-most x fx px (quotient-above n some fw) (quotient-below n some fw) in
-      let my = root-at-most y fy py (quotient-above k sv few) (quotient-below k sv few) in
+      let sixth = positive-not-below x (quotient-positive n some fw) in
+      let ry = root-positive y (quotient-above k sv few) (quotient-below k sv few) in
+      let ly = root-at-least y (quotient-above k sv few) (quotient-below k sv few) in
+      let my = root-at-most y (quotient-above k sv few) (quotient-below k sv few) in
       let a = mul binary64 (squareRoot binary64 x) usualFactor in
       let b = mul binary64 (squareRoot binary64 y) usualFactor in
-      let ab = mul-monotone binary64 (squareRoot binary64 x) (squareRoot binary64 y) usualFactor tt (root-grows x y px py (quotient-grows n k some grown few)) in
-      let pa = across-positive usual-reach (squareRoot binary64 x) rx lx mx in
+      let ab = mul-monotone binary64 (squareRoot binary64 x) (squareRoot binary64 y) usualFactor tt (squareRoot-monotone binary64 x y sixth (quotient-grows n k some grown few)) in
       let pb = across-positive usual-reach (squareRoot binary64 y) ry ly my in
-      let cb = ceil-positive usual-reach (squareRoot binary64 y) ry ly my in
-      let c = to-unsigned-monotone 64 (ceilOf a) (ceilOf b) (ceil-grows a b (mul-fits binary64 (squareRoot binary64 x) usualFactor) (mul-fits binary64 (squareRoot binary64 y) usualFactor) pa pb cb ab) in
+      let c = to-unsigned-monotone 64 (ceilOf a) (ceilOf b) (ceil-grows a b (mul-fits binary64 (squareRoot binary64 x) usualFactor) (mul-fits binary64 (squareRoot binary64 y) usualFactor) pb ab) in
       omega arith
 
 -- ---- the ends
@@ -157,9 +92,6 @@ ends g l m = go (tested 33 g) (tested 64 g) (tested 95 g)
 
 last-few : (g : ℕ) → g ≤ 125 → lastCount g + 1 ≤ greatestCount
 last-few g h = let s : g * g ≤ 125 * 125 = mul-le-mul h h in omega arith
-
-last-some : (g : ℕ) → 2 ≤ g → 1 ≤ lastCount g
-last-some g h = let s : 2 * 2 ≤ g * g = mul-le-mul h h in omega arith
 
 module _ (n g : ℕ) (some : 1 ≤ n) (few : n ≤ greatestCount) (lower : 2 ≤ g) (upper : g ≤ 125) where
   at-most-side : 6 * n ≤ 25 * (g * g) → sideOf usualFactor n ≤ g

@@ -1,20 +1,23 @@
 -- Whether g is the side, as code tests it: by its range, `out-of-range`, and then by two comparisons and no ceiling, `side-between`. Assumes nothing.
-use Prim.Native.Nat.{ℕ, _-_, _*_, _≤_, _<_}
+use Prim.Native.Nat.{ℕ, _-_, _≤_, _<_}
 use native.Mathlib.Omega.{arith}
 use native.Mathlib.Decide.{decLt}
-use mathlib.Core.Path.{_≡_, refl, sym, subst}
+use mathlib.Core.Path.{_≡_, refl, sym, subst, _∙_}
 use mathlib.Core.Logic.{inl, inr}
-use mathlib.Core.Bool.{Bool, true, false, not, _&&_, _||_, true≢false}
-use lib.Dec.{T, ltb, eqb, ltb→lt}
-use lib.Ieee.{Float, nan, inf, fin, binary64, up, down, lt, le, div, toUnsigned, fits}
+use mathlib.Core.Bool.{Bool, true, false, _&&_, _||_, true≢false}
+use lib.Dec.{T, ltb, eqb}
+use lib.Ieee.{Float, binary64, lt, le, div, toUnsigned, fits}
+use lib.Ieee.Bits.{is-true}
 use lib.Ieee.Exact.{HasValue}
 use lib.Ieee.Order.{le-of-values}
 use lib.Ieee.Fits.{mul-fits}
-use lib.Ieee.Positive.{num, den, den-pos, positive, positive-finite, own-value, le→cross, values-of-le, le-trans-positive}
+use lib.Ieee.Positive.{num, den, den-pos, positive, positive-finite, own-value, values-of-le}
 use borrow.Author.Tests.{ltb-true, ltb-false, eq-eqb, ne-eqb}
 use Rattle.binary64.specs.Convert.{whole}
 use Rattle.binary64.proofs.Integral.{integral-exact, ceil-not-below, ceil-least}
-use Rattle.binary64.proofs.FloatOrder.{le-of-not-lt}
+use Rattle.binary64.proofs.FloatOrder.{le-not-lt, le-of-not-lt}
+use Rattle.binary64.proofs.LessThan.{le-transitive}
+use Rattle.binary64.proofs.NotNan.{finite-number, finite-not-nan}
 use Rattle.binary64.proofs.Tests.{Tested, tested}
 use Rattle.binary64.proofs.WholeNumbers.{whole-value, whole-positive, to-unsigned-whole, whole-converted, to-unsigned-monotone}
 use Rattle.root.specs.Root.{squareRoot}
@@ -22,7 +25,7 @@ use Rattle.mesh.specs.Rows.{greatestCount}
 use Rattle.grid.specs.Settings.{factorFits}
 use Rattle.grid.specs.Cells.{sideAcross, sideOf}
 use Rattle.grid.specs.Passes.{greatestSide}
-use Rattle.grid.proofs.SideBound.{finite-number, allowed-reach, side-across-positive, sideFloat, side-float}
+use Rattle.grid.proofs.SideBound.{allowed-reach, side-across-positive, sideFloat, side-float}
 
 -- ---- the range of sides, as code tests it
 pub out-of-range : (g s most : ℕ) → 2 ≤ s → s ≤ most → (ltb g 2 || ltb most g) ≡ true → false ≡ eqb g s
@@ -40,17 +43,6 @@ in-range g most h = go (ltb g 2) refl h
     go false l h = (ltb-false g 2 l, ltb-false most g h)
 
 -- ---- two comparisons
--- a value above zero below another
-less→cross : (x y : Float) → T (positive x) → T (positive y) → T (lt x y) → num x * den y < num y * den x
-unfolding lt
-less→cross nan y p q h = absurd p
-less→cross (inf s) y p q h = absurd p
-less→cross (fin true m e) y p q h = absurd p
-less→cross (fin false m e) nan p q h = absurd q
-less→cross (fin false m e) (inf t) p q h = absurd q
-less→cross (fin false m e) (fin true n d) p q h = absurd q
-less→cross (fin false m e) (fin false n d) p q h = ltb→lt (m * up e * down d) (n * up d * down e) h
-
 module _ (factor : Float) (allowed : factorFits factor ≡ true) (n : ℕ) (some : 1 ≤ n) (few : n ≤ greatestCount) where
   abbrev across : Float
   across = sideAcross factor n
@@ -94,9 +86,9 @@ module _ (factor : Float) (allowed : factorFits factor ≡ true) (n : ℕ) (some
         go (yes d) = d
         go (no d) =
             let below = le-of-values ceiling (whole k) (toUnsigned 64 ceiling) 1 k 1 (omega arith) (omega arith) whole-ceiling k-value (omega arith) in
-            let reached = ceil-not-below across across-fits (subst (λ (b : Bool). T (not b)) (sym (finite-number across (positive-finite across across-is-positive))) tt) in
-            let whole-way = le-trans-positive across ceiling (whole k) across-is-positive ceiling-positive k-positive reached below in
-            absurd (let y : ⊥ = omega (arith, le→cross across (whole k) across-is-positive k-positive whole-way, less→cross (whole k) across k-positive across-is-positive h) in y)
+            let reached = ceil-not-below across across-fits (finite-not-nan across (positive-finite across across-is-positive)) in
+            let whole-way = le-transitive across ceiling (whole k) reached below in
+            absurd (true≢false (sym (is-true _ h) ∙ le-not-lt (whole k) across (is-true _ whole-way)))
 
     not-above : lt (whole k) across ≡ false → T (le across (whole k))
     not-above h =

@@ -1,8 +1,9 @@
 -- The six faces of the cube around the sphere, as `cube_project` and `cube_face_project` number them. Definitions only.
 use Prim.Native.Nat.{ℕ, zero, suc}
-use mathlib.Core.Bool.{Bool, true, false, _&&_, cond}
+use mathlib.Core.Bool.{false, _&&_, cond}
 use lib.IntN.{pos}
-use lib.Ieee.{Float, nan, inf, fin, neg, lt, le}
+use lib.Ieee.{Float, fin, neg, lt, le}
+use Rattle.binary64.specs.Absolute.{abs}
 use Rattle.vector.specs.declared.Vector3.{Vector3}
 use Rattle.grid.specs.declared.Projected.{Projected}
 
@@ -18,12 +19,6 @@ faceProjection (suc (suc (suc zero))) v = projected (neg (v .x)) (v .z) (neg (v 
 faceProjection (suc (suc (suc (suc zero)))) v = projected (v .x) (v .y) (v .z)
 faceProjection (suc (suc (suc (suc (suc face))))) v = projected (neg (v .x)) (v .y) (neg (v .z))
 
--- IEEE 754-2019, 5.5.1: abs.
-unfoldable pub absolute : Float → Float
-absolute nan = nan
-absolute (inf s) = inf false
-absolute (fin s m e) = fin false m e
-
 abbrev pub zeroFloat : Float
 zeroFloat = fin false 0 (pos 0)
 
@@ -34,5 +29,5 @@ sideOfAxis component positive negative = cond (lt zeroFloat component) positive 
 -- "The cube face is chosen from 0 to 5 by the dominant axis": x where neither other component is larger in magnitude, else y where z is not larger, else z.
 unfoldable pub dominantFace : Vector3 → ℕ
 dominantFace v =
-    cond (le (absolute (v .y)) (absolute (v .x)) && le (absolute (v .z)) (absolute (v .x))) (sideOfAxis (v .x) 0 1)
-    (cond (le (absolute (v .z)) (absolute (v .y))) (sideOfAxis (v .y) 2 3) (sideOfAxis (v .z) 4 5))
+    cond (le (abs (v .y)) (abs (v .x)) && le (abs (v .z)) (abs (v .x))) (sideOfAxis (v .x) 0 1)
+    (cond (le (abs (v .z)) (abs (v .y))) (sideOfAxis (v .y) 2 3) (sideOfAxis (v .z) 4 5))

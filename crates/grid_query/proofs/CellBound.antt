@@ -5,9 +5,10 @@ use native.Mathlib.Omega.{arith}
 use mathlib.Core.Bool.{Bool, true, false, _&&_, cond}
 use lib.Dec.{lit≤}
 use lib.Ieee.{lt, le}
+use Rattle.binary64.specs.Absolute.{abs}
 use Rattle.vector.specs.declared.Vector3.{Vector3}
 use Rattle.mesh.specs.Rows.{greatestCount}
-use Rattle.grid.specs.CubeFace.{absolute, zeroFloat, faceProjection, dominantFace}
+use Rattle.grid.specs.CubeFace.{zeroFloat, faceProjection, dominantFace}
 use Rattle.grid.specs.Cells.{cellCount, acrossCells}
 use Rattle.grid_query.specs.Cell.{clampedCell, cellOf}
 use Rattle.grid_query.proofs.Clamp.{clamped-below}
@@ -24,7 +25,7 @@ face-of-six false false a b false = lit≤ tt
 pub face-at-most : (v : Vector3) → dominantFace v ≤ 5
 unfolding dominantFace
 face-at-most v =
-    face-of-six (le (absolute (v .y)) (absolute (v .x)) && le (absolute (v .z)) (absolute (v .x))) (le (absolute (v .z)) (absolute (v .y)))
+    face-of-six (le (abs (v .y)) (abs (v .x)) && le (abs (v .z)) (abs (v .x))) (le (abs (v .z)) (abs (v .y)))
     (lt zeroFloat (v .x)) (lt zeroFloat (v .y)) (lt zeroFloat (v .z))
 
 -- what is added up to a cell's number fits a word by far

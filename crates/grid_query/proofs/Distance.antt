@@ -30,4 +30,4 @@ pub squared-distance-not-nan : (positions : List Float) (direction : Vector3) (v
 unfolding squaredDistance
 squared-distance-not-nan positions direction v h k =
     squared-length-not-nan (vectorDifference (normalized direction) (positionOf positions v))
-    (difference-not-nan (normalized direction) (positionOf positions v) (normalized-not-nan direction (admissible-parts direction (subst T (sym h) tt))) (admissible-parts (positionOf positions v) (subst T (sym k) tt)))
+    (difference-not-nan (normalized direction) (positionOf positions v) (normalized-not-nan direction (subst T (sym h) tt)) (admissible-parts (positionOf positions v) (subst T (sym k) tt) .components))

@@ -10,6 +10,8 @@ pub mod Counts
 pub mod Neighbours
 pub mod Moves
 pub mod ListLengths
+pub mod FaceAxes
+pub mod Positions
 pub mod Rows
 pub mod Mark
 pub mod Naming

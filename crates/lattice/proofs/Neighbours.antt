@@ -1,19 +1,21 @@
 -- Laws of steps and of neighbouring vertices, and that the lattice's lists are mutual, without the own vertex and without repeats. Assumes nothing.
-use Prim.Native.Nat.{ℕ, suc, _-_, _*_, _<_}
+use Prim.Native.Nat.{ℕ, suc, _+_, _-_, _*_, _<_}
 use native.Mathlib.Omega.{arith}
 use mathlib.Core.Path.{_≡_, refl, sym, ap, _∙_}
 use mathlib.Core.Logic.{_⊎_, inl, inr}
 use mathlib.Core.Bool.{true, _&&_, _||_}
 use mathlib.Core.List.{List, List·Memᴰ}
 use lib.Dec.{eqb}
-use lib.ListN.{length}
+use lib.ListN.{length, getD}
+use lib.Ieee.{nan}
 use borrow.Author.Tests.{eqb-true, eq-eqb}
 use Rattle.sequences.specs.Ascending.{Ascending}
 use Rattle.sequences.proofs.Range.{and-split, and-intro, or-split, or-left, or-right, some-below-at, some-below-intro}
-use Rattle.sequences.proofs.Starts.{concatenate-even-length, concatenate-part}
+use Rattle.sequences.proofs.Starts.{concatenate-even-length, concatenate-even-at, concatenate-part}
 use Rattle.sequences.proofs.Ascending.{ascending-distinct, ascending-unique}
 use Rattle.sequences.proofs.Filter.{filter-range-member, member-filter-range, filter-range-ascending}
-use Rattle.mesh.specs.Mesh.{count, neighbours}
+use Rattle.vector.specs.Vector.{vector}
+use Rattle.mesh.specs.Mesh.{count, positionOf, neighbours}
 use Rattle.mesh.specs.Adjacency.{Mutual, NoOwnVertex, NoRepeat}
 use Rattle.lattice.specs.Lattice.{LatticePoint, pointAt, sameVertex, weightAt, latticeVertices, idOf, pointPosition, coordinates, isStepUp, isStep, areNeighbours, latticeList, latticeMesh}
 use Rattle.lattice.specs.Appearances.{OnLattice}
@@ -276,6 +278,21 @@ length-positions n =
 -- the mesh counts the vertices
 pub mesh-count : (n : ℕ) → count (latticeMesh n) ≡ length (latticeVertices n)
 mesh-count n = rw (length-positions n) (omega arith)
+
+-- has their positions
+pub position-at : (n v : ℕ) → v < length (latticeVertices n) → (k : ℕ) → k < 3 → getD (latticeMesh n .positions) (v * 3 + k) nan ≡ getD (coordinates (pointPosition n (vertexAt n v))) k nan
+unfolding latticeMesh
+position-at n v lt k lk = concatenate-even-at (length (latticeVertices n)) 3 (λ v. coordinates (pointPosition n (vertexAt n v))) (λ v lt. refl) v k nan lt lk
+
+pub mesh-position : (n v : ℕ) → v < count (latticeMesh n) → positionOf (latticeMesh n .positions) v ≡ pointPosition n (vertexAt n v)
+unfolding positionOf
+mesh-position n v lt = λ i. vector (first i) (position-at n v below 1 (omega arith) i) (position-at n v below 2 (omega arith) i)
+  where
+    below : v < length (latticeVertices n)
+    below = rw (mesh-count n) at lt
+
+    first : getD (latticeMesh n .positions) (v * 3) nan ≡ pointPosition n (vertexAt n v) .x
+    first = ap (λ (k : ℕ). getD (latticeMesh n .positions) k nan) (let z : v * 3 ≡ v * 3 + 0 = omega arith in z) ∙ position-at n v below 0 (omega arith)
 
 -- and has their lists
 pub mesh-list : (n v : ℕ) → v < count (latticeMesh n) → neighbours (latticeMesh n) v ≡ latticeList n v

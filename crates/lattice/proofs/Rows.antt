@@ -1,22 +1,25 @@
--- Every lattice of a frequency from 1 to 80 passes rows 2 to 4, the mesh rows of the walk and the renumbering. Assumes nothing.
+-- Every lattice of a frequency from 1 to 80 passes rows 2 to 4, the mesh rows of the walk, the renumbering and the reading call (`lattice-rows`), and row 5 too, so the builder's (`lattice-mesh-rows`). Assumes nothing.
 use Prim.Native.Nat.{ℕ, suc, _-_, _*_, _≤_, _<_}
 use native.Mathlib.Nat.{mul-le-mul}
 use native.Mathlib.Omega.{arith}
 use mathlib.Core.Path.{_≡_, sym, ap, subst, _∙_}
 use mathlib.Core.Bool.{Bool, true, false, cond}
 use lib.ListN.{length, getD}
+use lib.Ieee.Bits.{is-true}
 use Rattle.sequences.specs.Starts.{CompressedRows}
 use Rattle.sequences.proofs.Tabulate.{getD-member}
 use Rattle.sequences.proofs.Starts.{compressed-rows, concatenate-member, starts-at, start-suc}
 use Rattle.refusal.specs.declared.Verdict.the-variants.{Passed}
-use Rattle.mesh.specs.Rows.{longestList, adjacencyRows}
-use Rattle.mesh.proofs.Facts.{adjacency-passed}
+use Rattle.vector.specs.Direction.{admissible}
+use Rattle.mesh.specs.Rows.{longestList, adjacencyRows, meshRows}
+use Rattle.mesh.proofs.Facts.{AdjacencyFacts, adjacency-passed, mesh-passed}
 use Rattle.lattice.specs.Lattice.{latticeVertices, latticeList, latticeMesh}
 use Rattle.lattice.specs.Appearances.{isCorner}
-use Rattle.lattice.proofs.Vertices.{vertexAt}
+use Rattle.lattice.proofs.Vertices.{vertexAt, vertex-on-lattice}
 use Rattle.lattice.proofs.Counts.{lattice-vertex-count}
-use Rattle.lattice.proofs.Neighbours.{length-positions, mesh-count, list-member}
+use Rattle.lattice.proofs.Neighbours.{length-positions, mesh-count, mesh-position, list-member}
 use Rattle.lattice.proofs.ListLengths.{lattice-list-length}
+use Rattle.lattice.proofs.Positions.{position-admissible}
 
 -- "n = 80 gives 64,002": a count fits in 65,536, and so its ids in u16
 pub vertex-count-bounds : (n : ℕ) → 1 ≤ n → n ≤ 80 → (1 ≤ length (latticeVertices n)) × (length (latticeVertices n) ≤ 64002)
@@ -54,15 +57,28 @@ module _ (n : ℕ) (lo : 1 ≤ n) where
   unfolding latticeMesh
   compressed = compressed-rows (length (latticeVertices n)) (latticeList n)
 
-  pub lattice-rows : n ≤ 80 → adjacencyRows (latticeMesh n) ≡ Passed
-  lattice-rows hi =
-      let bounds = vertex-count-bounds n lo hi in
-      let same = mesh-count n in
-      adjacency-passed (latticeMesh n) (record {
-        three-each = length-positions n ∙ ap (λ (k : ℕ). k * 3) (sym same);
-        some = omega (arith, bounds .0);
-        few = omega (arith, bounds .1);
-        rows = subst (λ (k : ℕ). CompressedRows k (latticeMesh n .starts) (latticeMesh n .entries)) (sym same) compressed;
-        limited = λ v lt. lists-limited v (rw same at lt);
-        ids-below = λ i lt. rw same (lattice-entry-below i lt);
-      })
+  module _ (hi : n ≤ 80) where
+    adjacency : AdjacencyFacts (latticeMesh n)
+    adjacency =
+        let bounds = vertex-count-bounds n lo hi in
+        let same = mesh-count n in
+        record {
+          three-each = length-positions n ∙ ap (λ (k : ℕ). k * 3) (sym same);
+          some = omega (arith, bounds .0);
+          few = omega (arith, bounds .1);
+          rows = subst (λ (k : ℕ). CompressedRows k (latticeMesh n .starts) (latticeMesh n .entries)) (sym same) compressed;
+          limited = λ v lt. lists-limited v (rw same at lt);
+          ids-below = λ i lt. rw same (lattice-entry-below i lt);
+        }
+
+    -- rows 2 to 4
+    pub lattice-rows : adjacencyRows (latticeMesh n) ≡ Passed
+    lattice-rows = adjacency-passed (latticeMesh n) adjacency
+
+    -- rows 2 to 5
+    pub lattice-mesh-rows : meshRows (latticeMesh n) ≡ Passed
+    lattice-mesh-rows = mesh-passed (latticeMesh n) (record {
+      adjacency = adjacency;
+      admissible-positions = λ v lt.
+          ap admissible (mesh-position n v lt) ∙ is-true _ (position-admissible n (vertexAt n v) lo hi (vertex-on-lattice n v (rw (mesh-count n) at lt)));
+    })

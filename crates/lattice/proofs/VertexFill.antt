@@ -14,13 +14,13 @@ use borrow.Author.Tests.{ltb-false, lt-ltb, le-ltb}
 use Rattle.sequences.specs.Tabulate.{overwrite, Overwritten}
 use Rattle.sequences.specs.Starts.{startOf}
 use Rattle.sequences.proofs.Tabulate.{overwritten-none, overwritten-set, overwritten-all}
-use Rattle.sequences.proofs.Starts.{start-zero, start-suc, length-starts, starts-at, concatenate-even-at}
+use Rattle.sequences.proofs.Starts.{start-zero, start-suc, length-starts, starts-at}
 use Rattle.vector.specs.declared.Vector3.{Vector3}
-use Rattle.lattice.specs.Lattice.{LatticePoint, pointAt, latticeVertices, latticeList, latticeMesh, pointPosition, coordinates}
+use Rattle.lattice.specs.Lattice.{LatticePoint, pointAt, latticeVertices, latticeList, latticeMesh, pointPosition}
 use Rattle.lattice.specs.Appearances.{isSingle, isCorner}
 use Rattle.lattice.specs.Naming.{pointAfter}
 use Rattle.lattice.proofs.Vertices.{vertexAt}
-use Rattle.lattice.proofs.Neighbours.{length-positions}
+use Rattle.lattice.proofs.Neighbours.{length-positions, position-at}
 use Rattle.lattice.proofs.ListLengths.{lattice-list-length, lattice-list-start}
 
 -- ---- corners by their weights
@@ -64,11 +64,6 @@ same-face n p q e d = go (ltb (p .a + p .b) n) (ltb (p .a) n) e
     go false false is = absurd (d (ap (λ (r : LatticePoint). r .a + r .b) is))
 
 -- ---- what the mesh holds at a vertex
-module _ (n v : ℕ) (lt : v < length (latticeVertices n)) where
-  position-at : (k : ℕ) → k < 3 → getD (latticeMesh n .positions) (v * 3 + k) nan ≡ getD (coordinates (pointPosition n (vertexAt n v))) k nan
-  unfolding latticeMesh
-  position-at k lk = concatenate-even-at (length (latticeVertices n)) 3 (λ v. coordinates (pointPosition n (vertexAt n v))) (λ v lt. refl) v k nan lt lk
-
 start-here : (n v : ℕ) → v ≤ length (latticeVertices n) → getD (latticeMesh n .starts) v 0 ≡ startOf (latticeList n) v
 unfolding latticeMesh
 start-here n v le = starts-at (length (latticeVertices n)) (latticeList n) v le

@@ -67,14 +67,17 @@ latticeVertices n = firstAppearances n [] (latticePoints n)
 unfoldable pub idOf : ℕ → LatticePoint → ℕ
 idOf n p = firstPlaceFrom n 0 (latticeVertices n) p
 
--- "the position is that appearance's ((a·P1 + b·P2) + c·P3)/n, normalised"
-unfoldable pub pointPosition : ℕ → LatticePoint → Vector3
-pointPosition n p =
-    normalized
-    (vectorQuotient
+-- "((a·P1 + b·P2) + c·P3)/n": the mean of the face's corners by their weights.
+abbrev pub meanPoint : ℕ → LatticePoint → Vector3
+meanPoint n p =
+    vectorQuotient
     (vectorSum (vectorSum (vectorMultiple (cornerPoint (p .face) 0) (whole (p .a))) (vectorMultiple (cornerPoint (p .face) 1) (whole (p .b))))
     (vectorMultiple (cornerPoint (p .face) 2) (whole (n - p .a - p .b))))
-    (whole n))
+    (whole n)
+
+-- "the position is that appearance's ((a·P1 + b·P2) + c·P3)/n, normalised"
+unfoldable pub pointPosition : ℕ → LatticePoint → Vector3
+pointPosition n p = normalized (meanPoint n p)
 
 abbrev pub coordinates : Vector3 → List Float
 coordinates v = v .x ∷ v .y ∷ v .z ∷ []

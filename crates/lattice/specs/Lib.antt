@@ -4,3 +4,4 @@ pub mod Shared
 pub mod Naming
 pub mod Gathering
 pub mod Inside
+pub mod FaceAxes

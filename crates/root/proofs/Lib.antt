@@ -5,4 +5,4 @@ pub mod Candidate
 pub mod StickyRoot
 pub mod HalfExponent
 pub mod Operands
-pub mod Positive
+pub mod Monotone

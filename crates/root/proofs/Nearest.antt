@@ -15,6 +15,7 @@ use lib.Ieee.Exact.{HasValue}
 use lib.Ieee.Order.{drop, kept}
 use lib.Ieee.Scale.{grid, finite}
 use lib.Ieee.Positive.{num, den, positive, value→cross}
+use Rattle.binary64.proofs.NotNan.{value-finite}
 use Rattle.binary64.proofs.SignedOrder.{signed-of-not-below}
 use Rattle.rounding.proofs.RoundSticky.{pow-lt-back}
 use Rattle.rounding.specs.TiesToEven.{absDiff, InRange}
@@ -228,7 +229,7 @@ units-lt nv dv nq dq v q L l nv-is nq-is h =
 zero-below : (n : ℕ) (d : ℤ) → T (le (fin false 0 (pos 0)) (fin true n d)) → n * up d ≡ 0
 zero-below n d t = omega (arith, signed-of-not-below (fin true n d) true (n * up d) (down d) (refl, refl) t)
 
-no-negative : (m : ℕ) (e : ℤ) → T (le (fin false 0 (pos 0)) (fin true (suc m) e)) → ⊥
+pub no-negative : (m : ℕ) (e : ℤ) → T (le (fin false 0 (pos 0)) (fin true (suc m) e)) → ⊥
 no-negative m e t = lt-irrefl 0 (subst (λ (z : ℕ). 0 < z) (zero-below (suc m) e t) (mul-pos (zero-lt-suc m) (up-pos e)))
 
 less-cross : (v q : Float) (c L : ℕ) → T (le (fin false 0 (pos 0)) v) → T (finite v) → HasValue q false c L → T (lt v q) → num v * den q < num q * den v
@@ -292,12 +293,7 @@ root-value f x u = subst (λ (z : Float). HasValue z false (result f (u .count) 
 positive-finite : (f : Format) (x : Float) → T (fits f x) → T (positive x) → T (finite (squareRoot f x))
 positive-finite f x t p =
     let u = units-of f x t p in
-    go (squareRoot f x) (result f (u .count) (u .some)) (root-value f x u)
-  where
-    go : (q : Float) (c : ℕ) → HasValue q false c (2 ^ low f) → T (finite q)
-    go nan c h = absurd h
-    go (inf s) c h = absurd h
-    go (fin s m e) c h = tt
+    value-finite (squareRoot f x) false (result f (u .count) (u .some)) (2 ^ low f) (root-value f x u)
 
 -- what the root of x is to a value v: where v lies below it, their middle is not above √x, and where v lies above it, not below √x
 abbrev Nearest : Float → Float → Float → Type 0

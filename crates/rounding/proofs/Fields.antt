@@ -4,21 +4,15 @@ use mathlib.Core.Logic.{inl, inr}
 use Prim.Native.Nat.{ℕ, suc, _+_, _-_, _*_, _/_, _%_, _^_, _<_}
 use native.Mathlib.Nat.{le-trans, le-of-eq, lt-of-lt-of-le, le-of-suc-le-suc, eq-or-lt-of-le, mul-comm, mul-pos, mod-lt, div-lt-iff-lt-mul, le-add-left}
 use native.Mathlib.Omega.{arith}
-use mathlib.Core.Bool.{Bool, true, false, not, cond}
+use mathlib.Core.Bool.{Bool, true, false, cond}
 use lib.Dec.{T, leb, eqb, eqb-refl}
 use lib.Pow.{pow-pos}
-use lib.Ieee.{Float, nan, inf, fin, Format, prec, low, hid, ones, top, fits, isNan, odd, ofFields, ofBits, toBits}
+use lib.Ieee.{Float, nan, inf, Format, prec, low, hid, ones, top, fits, odd, ofFields, ofBits, toBits}
 use lib.Ieee.Exact.{HasValue, odd-sign}
 use lib.Ieee.Fits.{two, reach}
 use lib.Ieee.Scale.{finite}
 use lib.Ieee.Bits.{ofBits-toBits}
 use Rattle.rounding.proofs.BitPattern.{hid-double}
-
-pub finite-not-nan : (x : Float) → T (finite x) → T (not (isNan x))
-unfolding isNan
-finite-not-nan nan t = t
-finite-not-nan (inf s) t = tt
-finite-not-nan (fin s m e) t = tt
 
 -- ---- the fields of a pattern
 ofBits-fields : (f : Format) (n : ℕ) → ofBits f n ≡ ofFields f (leb (top f) n) (n % top f / hid f) (n % hid f)

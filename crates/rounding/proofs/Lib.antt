@@ -9,4 +9,6 @@ pub mod Normalise
 pub mod Finite
 pub mod NearestDigits
 pub mod TiesToEven
+pub mod Exact
 pub mod Monotone
+pub mod Between

@@ -1,11 +1,11 @@
 -- A rounding keeps the order (IEEE 754-2019, 4.3.1), whatever the signs: `round-monotone`. So an operation that rounds an exact result once keeps it where the exact result does:
--- of finite operands `sum-monotone`, `add-monotone` and, by a value above zero, `div-monotone`, whose results may be subnormal or overflow without a case of their own. Infinite operands come in by `monotone-to-infinities`: `mul-monotone` has them, beside a factor above zero.
+-- of finite operands `sum-monotone`, `add-monotone`, `square-monotone` and, by a value above zero, `div-monotone`, whose results may be subnormal or overflow without a case of their own; `div-antitone` turns it round. Infinite operands come in by `monotone-to-infinities`: `mul-monotone` has them, beside a factor above zero.
 -- Over any format. Assumes nothing.
 use mathlib.Core.Path.{_≡_, refl, sym, ap, _∙_, subst}
 use mathlib.Core.Logic.{inl, inr}
 use mathlib.Core.Bool.{Bool, true, false, cond}
 use Prim.Native.Nat.{ℕ, _+_, _-_, _*_, _≤_, _<_}
-use native.Mathlib.Nat.{mul-comm, mul-assoc, mul-left-comm, mul-right-comm, mul-pos}
+use native.Mathlib.Nat.{le-refl, le-trans, le-of-eq, zero-mul, mul-comm, mul-assoc, mul-left-comm, mul-right-comm, mul-mul-mul-comm, mul-le-mul, mul-le-mul-right, mul-pos}
 use native.Mathlib.Omega.{arith}
 use borrow.Author.Tests.{lt-ltb, le-ltb, ne-eqb}
 use lib.Dec.{T, ltb→lt}
@@ -14,8 +14,9 @@ use lib.Ieee.{Float, inf, fin, Format, up, down, unlike, round, sum, add, mul, d
 use lib.Ieee.Bits.{is-true}
 use lib.Ieee.Fits.{up-pos, down-pos}
 use lib.Ieee.Order.{round-mono}
-use lib.Ieee.Positive.{positive, positive-finite}
+use lib.Ieee.Positive.{positive, positive-finite, le→cross}
 use lib.Ieee.Scale.{finite}
+use Rattle.binary64.specs.Absolute.{abs}
 use Rattle.binary64.proofs.FloatOrder.{infinity-least, infinity-greatest, signs-apart, le-of-not-lt, le-right-number}
 use Rattle.binary64.proofs.LessThan.{factor-zero, le-reflexive}
 use Rattle.binary64.proofs.Negation.{neg-round}
@@ -124,7 +125,7 @@ add-monotone f (fin s m e) (fin s′ m′ e′) (fin t n d) (fin t′ n′ d′)
 
 -- ---- one rounding of a product with, or a quotient by, a value above zero
 -- y may be −0 or +0 here
-mul-monotone-finite : (f : Format) (x x′ y : Float) → T (finite x) → T (finite x′) → T (finite y) → T (le (fin false 0 (pos 0)) y) → T (le x x′) → T (le (mul f x y) (mul f x′ y))
+pub mul-monotone-finite : (f : Format) (x x′ y : Float) → T (finite x) → T (finite x′) → T (finite y) → T (le (fin false 0 (pos 0)) y) → T (le x x′) → T (le (mul f x y) (mul f x′ y))
 unfolding mul
 mul-monotone-finite f (fin s m e) (fin t n d) (fin u k g) X X′ Y not-below h =
     let factor = signed-of-not-below (fin u k g) u (k * up g) (down g) (refl, refl) not-below in
@@ -145,6 +146,39 @@ div-monotone f (fin s m e) (fin t n d) (fin false k g) X X′ Y h =
     (signed-same (unlike s false) (m * up e * down d * (down g * (k * up g))) (m * up e * down g * (k * up g * down d)) (unlike t false) (n * up d * down e * (down g * (k * up g))) (n * up d * down g * (k * up g * down e))
     (simp (mul-assoc, mul-comm, mul-left-comm)) (simp (mul-assoc, mul-comm, mul-left-comm))
     (signed-product false (down g * (k * up g)) s (m * up e * down d) t (n * up d * down e) (omega arith) operands)))
+
+-- the divisor turns the order round, of what is not below zero
+pub div-antitone : (f : Format) (x y y′ : Float) → T (finite x) → T (le (fin false 0 (pos 0)) x) → T (positive y) → T (positive y′) → T (le y y′) → T (le (div f x y′) (div f x y))
+unfolding div
+div-antitone f (fin s m e) (fin false k g) (fin false n d) X not-below Y Y′ h =
+    let some : 0 < k = ltb→lt 0 k Y in
+    let some′ : 0 < n = ltb→lt 0 n Y′ in
+    let dividend = signed-of-not-below (fin s m e) s (m * up e) (down e) (refl, refl) not-below in
+    let divisors = mul-le-mul-right (down e) (le→cross (fin false k g) (fin false n d) Y Y′ h) in
+    rw (ne-eqb k 0 (λ z. omega arith), ne-eqb n 0 (λ z. omega arith))
+    (round-monotone f (unlike s false) (m * up e * down d) (n * up d * down e) (unlike s false) (m * up e * down g) (k * up g * down e) (mul-pos (mul-pos some′ (up-pos d)) (down-pos e)) (mul-pos (mul-pos some (up-pos g)) (down-pos e))
+    (rw (unlike-plus s)
+    (signed-same s (m * up e * (k * up g * down d * down e)) (m * up e * down d * (k * up g * down e)) s (m * up e * (n * up d * down g * down e)) (m * up e * down g * (n * up d * down e))
+    (simp (mul-assoc, mul-comm, mul-left-comm)) (simp (mul-assoc, mul-comm, mul-left-comm))
+    (scaled-dividend s (m * up e) (k * up g * down d * down e) (n * up d * down g * down e) dividend divisors))))
+  where
+    -- ±x, which is not below zero, times a and times b
+    scaled-dividend : (s : Bool) (x a b : ℕ) → SignedLe false 0 s x → a ≤ b → SignedLe s (x * a) s (x * b)
+    scaled-dividend false x a b z h = mul-le-mul (le-refl x) h
+    scaled-dividend true x a b z h = let none : x ≡ 0 = omega arith in rw (none, zero-mul a, zero-mul b) (le-refl 0)
+
+-- ---- one rounding of a square
+pub square-monotone : (f : Format) (x y : Float) → T (finite x) → T (finite y) → T (le (abs x) (abs y)) → T (le (mul f x x) (mul f y y))
+unfolding mul abs
+square-monotone f (fin s m e) (fin t n d) X Y h =
+    let sizes = signed-of-finite false m e false n d h in
+    rw (like-itself s, like-itself t)
+    (round-monotone f false (m * up e * (m * up e)) (down e * down e) false (n * up d * (n * up d)) (down d * down d) (mul-pos (down-pos e) (down-pos e)) (mul-pos (down-pos d) (down-pos d))
+    (le-trans (le-of-eq (mul-mul-mul-comm (m * up e) (m * up e) (down d) (down d))) (le-trans (mul-le-mul sizes sizes) (le-of-eq (mul-mul-mul-comm (n * up d) (down e) (n * up d) (down e))))))
+  where
+    like-itself : (s : Bool) → unlike s s ≡ false
+    like-itself true = refl
+    like-itself false = refl
 
 -- ---- infinite operands
 -- What keeps the order of finite values and leaves the infinities keeps the order of all numbers.

@@ -11,7 +11,7 @@ use mathlib.Core.Bool.{Bool, true, false, not, _&&_, _||_, cond, Bool·beq}
 use lib.IntN.{ℤ, pos, negsuc}
 use lib.Dec.{T, T-not, leb, eqb, ltb, leb→le, ltb→lt}
 use lib.Pow.{pow-add, pow-pos, pow-lt, shl-lt, ones-lt}
-use lib.Ieee.{Float, nan, inf, fin, Format, binary32, binary64, prec, emax, low, size, up, down, odd, units, round, neg, eq, ne, le, fits, hid, ones, top, toBits}
+use lib.Ieee.{Float, nan, inf, fin, Format, binary32, binary64, prec, emax, low, size, up, down, round, neg, eq, ne, le, fits, hid, ones, top, toBits}
 use lib.Ieee.Digits.{size-le, back}
 use lib.Ieee.Fits.{and-i, and-l, and-r, eq→eqb, two, two-le-pos, down-pos, round-is}
 use lib.Ieee.Exact.{HasValue, units-val}
@@ -20,6 +20,7 @@ use lib.Ieee.Scale.{grid, overflow, finite}
 use lib.Ieee.Positive.{den, den-pos}
 use Rattle.binary64.proofs.Flags.{or-left}
 use Rattle.binary64.proofs.Negation.{neg-round}
+use Rattle.binary64.proofs.NotNan.{value-finite}
 use Rattle.rounding.proofs.RoundSticky.{pow-le-back, size-exact}
 use Rattle.rounding.specs.TiesToEven.{absDiff, distance, overflowThreshold, Overflows, InRange}
 use Rattle.rounding.proofs.NearestDigits.{absDiff-mul, even-product, even-pow, rounded-nearest, rounded-even, kept-le}
@@ -165,12 +166,7 @@ round-units f s a b B h =
 
 -- The rounding threshold (4.3.1): below it the result is finite.
 pub round-finite : (f : Format) (s : Bool) (num denom : ℕ) → 0 < denom → InRange f num denom → T (finite (round f s num denom))
-round-finite f s num denom D h = go (round f s num denom) (round-units f s num denom D h)
-  where
-    go : (x : Float) → HasValue x s (grid f num denom) (2 ^ low f) → T (finite x)
-    go nan v = absurd v
-    go (inf t) v = absurd v
-    go (fin t m e) v = tt
+round-finite f s num denom D h = value-finite (round f s num denom) s (grid f num denom) (2 ^ low f) (round-units f s num denom D h)
 
 -- The sign plays no part: what a number of the other sign rounds to is the negative.
 pub round-negates : (f : Format) (s : Bool) (num denom : ℕ) → round f (not s) num denom ≡ neg (round f s num denom)

@@ -68,11 +68,15 @@ admissible-by-length v =
     above : Unbounded (squaredLength v) → le (squaredLength v) greatestSquaredLength ≡ false
     above h = unbounded-above (squaredLength v) _ _ _ h
 
--- what a vector that rows 5 and 9 let pass has
-pub record Admissible (v : Vector3) : Type 0 where
+-- every component is finite
+pub record Finite (v : Vector3) : Type 0 where
   pub x-finite : T (finite (v .x))
   pub y-finite : T (finite (v .y))
   pub z-finite : T (finite (v .z))
+
+-- what a vector that rows 5 and 9 let pass has
+pub record Admissible (v : Vector3) : Type 0 where
+  pub components : Finite v
   pub not-below : T (le leastSquaredLength (squaredLength v))
   pub not-above : T (le (squaredLength v) greatestSquaredLength)
 
@@ -84,12 +88,10 @@ admissible-parts v t =
     let z = finite (v .z) in
     let p = le leastSquaredLength (squaredLength v) in
     let q = le (squaredLength v) greatestSquaredLength in
-    let components = and-l (x && y && z) (p && q) t in
+    let all-finite = and-l (x && y && z) (p && q) t in
     let ends = and-r (x && y && z) (p && q) t in
     record {
-      x-finite = and-l x y (and-l (x && y) z components);
-      y-finite = and-r x y (and-l (x && y) z components);
-      z-finite = and-r (x && y) z components;
+      components = record { x-finite = and-l x y (and-l (x && y) z all-finite); y-finite = and-r x y (and-l (x && y) z all-finite); z-finite = and-r (x && y) z all-finite };
       not-below = and-l p q ends;
       not-above = and-r p q ends;
     }

@@ -1,2 +1,4 @@
 pub mod Admissible
+pub mod Extent
+pub mod Normalized
 pub mod NotNan

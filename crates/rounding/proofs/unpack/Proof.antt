@@ -3,7 +3,8 @@ use mathlib.Core.Path.{sym, subst}
 use borrow.Author.Needs.{needs}
 use lib.Dec.{T}
 use lib.Ieee.{binary64, fits}
-use Rattle.rounding.proofs.Fields.{finite-not-nan, unpacked-subnormal, unpacked-normal}
+use Rattle.binary64.proofs.NotNan.{finite-not-nan}
+use Rattle.rounding.proofs.Fields.{unpacked-subnormal, unpacked-normal}
 use Rattle.rounding.proofs.unpack.Statement.{statement}
 use Rattle.rounding.proofs.unpack.Tie as tie
 
