@@ -63,10 +63,10 @@ extern "C" {
 
 /* One of these is the result of a call that may be refused, or is in the first field of its answer,
  * `refusal`. A call is refused by the first of its rows that holds; its comment names them by
- * number, in their order. All other fields are then 0, but for the index of KOSHIRGA_STARTS_FALL,
- * and neither a slice nor a mark is changed, but for the two slices of KOSHIRGA_UNREACHED. Later
- * versions may add rows: take every number but KOSHIRGA_ACCEPTED for a refusal, also one that isn't
- * here.
+ * number, in their order, as docs/DATASHEET.md lays it down for all calls in one table. All other
+ * fields are then 0, but for the index of KOSHIRGA_STARTS_FALL, and neither a slice nor a mark is
+ * changed, but for the two slices of KOSHIRGA_UNREACHED. Later versions may add rows: take every
+ * number but KOSHIRGA_ACCEPTED for a refusal, also one that isn't here.
  *
  * `index`, a field of some answers, belongs to KOSHIRGA_STARTS_FALL alone: the place in the start
  * list, counted from 0, of the first start that is below the one before it, so at least 1. The

@@ -6,9 +6,9 @@ use Prim.Native.Nat.{ℕ, zero, suc, _+_, _≤_, _<_}
 use native.Mathlib.Nat.{le-of-suc-le-suc, not-suc-le-zero}
 use native.Mathlib.Omega.{arith}
 use lib.ListN.{getD}
-use Rattle.icosahedron.proofs.Faces.{all-below}
+use Rattle.icosahedron.proofs.Faces.{entries-below}
 use Rattle.analytic.specs.declared.Signs.{Signs}
-use Rattle.analytic.specs.FaceChoice.{weighed, candidates, candidate}
+use Rattle.analytic.specs.FaceChoice.{flagWeight, mappedFaces, mappedFace}
 
 -- the source's nested table as one list, the signs i, j and k weighing 16, 8 and 4
 abbrev pub faceMapping : List ℕ
@@ -26,10 +26,10 @@ up-to-three P a b c d (suc (suc (suc (suc k)))) h = absurd (not-suc-le-zero (le-
 
 -- the place of a face in the list
 abbrev place : Bool → Bool → Bool → ℕ → ℕ
-place i j k side = weighed i 16 + weighed j 8 + weighed k 4 + side
+place i j k side = flagWeight i 16 + flagWeight j 8 + flagWeight k 4 + side
 
 abbrev Agrees : Bool → Bool → Bool → ℕ → Type 0
-Agrees i j k side = getD faceMapping (place i j k side) 0 ≡ getD (candidates i j k) side 0
+Agrees i j k side = getD faceMapping (place i j k side) 0 ≡ getD (mappedFaces i j k) side 0
 
 agrees : (i j k : Bool) (side : ℕ) → side ≤ 3 → Agrees i j k side
 agrees true true true side h = up-to-three (Agrees true true true) refl refl refl refl side h
@@ -41,21 +41,21 @@ agrees false true false side h = up-to-three (Agrees false true false) refl refl
 agrees false false true side h = up-to-three (Agrees false false true) refl refl refl refl side h
 agrees false false false side h = up-to-three (Agrees false false false) refl refl refl refl side h
 
-pub mapping-candidate : (s : Signs) (side : ℕ) → side ≤ 3 → getD faceMapping (weighed (s .i) 16 + weighed (s .j) 8 + weighed (s .k) 4 + side) 0 ≡ candidate s side
-unfolding candidate
-mapping-candidate s side h = agrees (s .i) (s .j) (s .k) side h
+pub table-mapped-face : (s : Signs) (side : ℕ) → side ≤ 3 → getD faceMapping (flagWeight (s .i) 16 + flagWeight (s .j) 8 + flagWeight (s .k) 4 + side) 0 ≡ mappedFace s side
+unfolding mappedFace
+table-mapped-face s side h = agrees (s .i) (s .j) (s .k) side h
 
-all-candidates-below : (i j k : Bool) (side : ℕ) → getD (candidates i j k) side 0 < 20
-all-candidates-below true true true side = all-below 20 (candidates true true true) (omega arith) tt side
-all-candidates-below true true false side = all-below 20 (candidates true true false) (omega arith) tt side
-all-candidates-below true false true side = all-below 20 (candidates true false true) (omega arith) tt side
-all-candidates-below true false false side = all-below 20 (candidates true false false) (omega arith) tt side
-all-candidates-below false true true side = all-below 20 (candidates false true true) (omega arith) tt side
-all-candidates-below false true false side = all-below 20 (candidates false true false) (omega arith) tt side
-all-candidates-below false false true side = all-below 20 (candidates false false true) (omega arith) tt side
-all-candidates-below false false false side = all-below 20 (candidates false false false) (omega arith) tt side
+all-mapped-below : (i j k : Bool) (side : ℕ) → getD (mappedFaces i j k) side 0 < 20
+all-mapped-below true true true side = entries-below 20 (mappedFaces true true true) (omega arith) tt side
+all-mapped-below true true false side = entries-below 20 (mappedFaces true true false) (omega arith) tt side
+all-mapped-below true false true side = entries-below 20 (mappedFaces true false true) (omega arith) tt side
+all-mapped-below true false false side = entries-below 20 (mappedFaces true false false) (omega arith) tt side
+all-mapped-below false true true side = entries-below 20 (mappedFaces false true true) (omega arith) tt side
+all-mapped-below false true false side = entries-below 20 (mappedFaces false true false) (omega arith) tt side
+all-mapped-below false false true side = entries-below 20 (mappedFaces false false true) (omega arith) tt side
+all-mapped-below false false false side = entries-below 20 (mappedFaces false false false) (omega arith) tt side
 
 -- Every chosen face is one of the twenty.
-pub candidate-below : (s : Signs) (side : ℕ) → candidate s side < 20
-unfolding candidate
-candidate-below s side = all-candidates-below (s .i) (s .j) (s .k) side
+pub mapped-face-below : (s : Signs) (side : ℕ) → mappedFace s side < 20
+unfolding mappedFace
+mapped-face-below s side = all-mapped-below (s .i) (s .j) (s .k) side

@@ -4,10 +4,10 @@ use native.Mathlib.Nat.{mul-le-mul-right, suc-mul}
 use native.Mathlib.Omega.{arith}
 use Rattle.icosahedron.specs.Slots.{slotsPerFace}
 use Rattle.icosahedron.proofs.Slots.{slot-below}
-use Rattle.analytic.specs.declared.LatticePoint.{LatticePoint}
+use Rattle.analytic.specs.declared.LatticeCoordinates.{LatticeCoordinates}
 use Rattle.analytic.specs.SubTriangle.{clampedSlot}
 
-pub clamped-slot-below : (n : ℕ) (q : LatticePoint) → clampedSlot n q < slotsPerFace n
+pub clamped-slot-below : (n : ℕ) (q : LatticeCoordinates) → clampedSlot n q < slotsPerFace n
 unfolding clampedSlot
 clamped-slot-below n q = slot-below n (min (q .a) n) (min (q .b) (n - min (q .a) n)) (omega arith)
 

@@ -3,22 +3,23 @@ ghost use mathlib.Core.Path.{_≡_};
 ghost use Prim.Native.Nat.{_+_, _*_, _≤_, _<_, min};
 ghost use lib.ListN.{length};
 ghost use Rattle.icosahedron.specs.Slots.{slotsPerFace};
-ghost use Rattle.analytic.specs.FaceChoice.{weighed, signsOf, flagSum, candidate, chooseFace, faceChoiceOf};
+ghost use Rattle.analytic.specs.FaceChoice.{flagWeight, signsOf, flagSum, mappedFace, chooseFace, faceChoiceOf};
 ghost use Rattle.analytic.specs.SubTriangle.{clampedFloor, subTriangle, subTriangleAt, subTriangleOn, clampedSlot};
 ghost use Rattle.refusal.specs.declared.Verdict.the-variants as verdict;
-ghost use Rattle.analytic.specs.Location.{idAt, tripleOf, idsBelow, metLocation, locate, lastGreatest, findNearestVertex};
-use barycentric::Triple;
-use barycentric::Weights;
+ghost use Rattle.analytic.specs.Location.{idAt, cornerIds, tripleBelow, metLocation, analyticLocate, lastGreatest, analyticNearest};
+use icosahedron::frequency_fits;
 use icosahedron::icosahedron_point;
+use icosahedron::lattice_vertex_count;
 use icosahedron::slots_per_face;
 use icosahedron::tri_index;
-use icosahedron::vertex_count;
 use master_face::MasterFace;
 use master_face::Outside;
 use master_face::faces::master_face_of;
 use refusal::Refusal;
 use refusal::Verdict;
+use vector::Triple;
 use vector::Vector3;
+use vector::Weights;
 
 // On which side of each symmetry plane a point lies: whether on the negative one.
 pub struct Signs {
@@ -33,15 +34,15 @@ pub enum FaceChoice {
 }
 
 // The lattice point with the weights a, b and n - a - b.
-pub struct LatticePoint {
+pub struct LatticeCoordinates {
     pub a: usize,
     pub b: usize,
 }
 
 pub struct SubTriangle {
-    pub first: LatticePoint,
-    pub second: LatticePoint,
-    pub third: LatticePoint,
+    pub first: LatticeCoordinates,
+    pub second: LatticeCoordinates,
+    pub third: LatticeCoordinates,
     pub weights: Weights,
 }
 
@@ -50,7 +51,7 @@ pub enum Location {
     Located { triple: Triple, weights: Weights },
 }
 
-pub enum Nearest {
+pub enum NearestCorner {
     Refused(Refusal),
     Vertex(u16),
 }
@@ -92,8 +93,8 @@ const FACE_MAPPING: [u8; 32] = [
 ];
 
 // The weight where the flag is set, and 0 where not.
-fn weigh(flag: bool, weight: usize) -> usize
-    ensures { λ r. ⌜ (r ≡ weighed flag weight) × (r ≤ weight) ⌝ }
+fn flag_weight(flag: bool, weight: usize) -> usize
+    ensures { λ r. ⌜ (r ≡ flagWeight flag weight) × (r ≤ weight) ⌝ }
 {
     if flag { weight } else { 0 }
 }
@@ -102,17 +103,17 @@ fn weigh(flag: bool, weight: usize) -> usize
 fn flag_sum(outside: Outside) -> usize
     ensures { λ r. ⌜ r ≡ flagSum outside ⌝ }
 {
-    weigh(outside.first, 1) + weigh(outside.second, 2) + weigh(outside.third, 3)
+    flag_weight(outside.first, 1) + flag_weight(outside.second, 2) + flag_weight(outside.third, 3)
 }
 
 // One of the four faces that the signs leave.
-fn candidate(signs: Signs, place: usize) -> usize
+fn mapped_face(signs: Signs, place: usize) -> usize
     requires { ⌜ place ≤ 3 ⌝ }
-    ensures { λ r. ⌜ r ≡ candidate signs place ⌝ }
+    ensures { λ r. ⌜ r ≡ mappedFace signs place ⌝ }
 {
-    let i = weigh(signs.i, 16);
-    let j = weigh(signs.j, 8);
-    let k = weigh(signs.k, 4);
+    let i = flag_weight(signs.i, 16);
+    let j = flag_weight(signs.j, 8);
+    let k = flag_weight(signs.k, 4);
     FACE_MAPPING[i + j + k + place] as usize
 }
 
@@ -122,7 +123,7 @@ pub fn choose_face(signs: Signs, outside: Outside) -> FaceChoice
 {
     let sum = flag_sum(outside);
     if sum <= 3 {
-        FaceChoice::Face(candidate(signs, sum))
+        FaceChoice::Face(mapped_face(signs, sum))
     } else {
         FaceChoice::Refused(Refusal::new(10))
     }
@@ -147,12 +148,12 @@ pub fn master_face(p: Vector3) -> FaceChoice
     ensures { λ r. ⌜ r ≡ faceChoiceOf p ⌝ }
 {
     let signs = signs_of(p);
-    let first = master_face_of(candidate(signs, 0));
+    let first = master_face_of(mapped_face(signs, 0));
     choose_face(signs, first.outside(p))
 }
 
 // The lesser of two numbers.
-fn least(a: usize, b: usize) -> usize
+fn lesser(a: usize, b: usize) -> usize
     ensures { λ r. ⌜ r ≡ min a b ⌝ }
 {
     if a < b { a } else { b }
@@ -165,7 +166,7 @@ fn clamped_floor(n: usize, u: f64) -> u32
 {
     if u > 0.0 {
         if u < 9007199254740992.0 {
-            least(std::num::truncating_f64_to_u64(u) as usize, n) as u32
+            lesser(std::num::truncating_f64_to_u64(u) as usize, n) as u32
         } else {
             n as u32
         }
@@ -176,12 +177,12 @@ fn clamped_floor(n: usize, u: f64) -> u32
 
 // The sub-triangle whose least lattice coordinates are i and j, by the fractions over them: pointing up where they sum to about 1, down where to about 2.
 fn sub_triangle(i: usize, j: usize, fu: f64, fv: f64, fw: f64) -> SubTriangle
-    requires { ⌜ (i ≤ 80) × (j ≤ 80) ⌝ }
+    requires { ⌜ i ≤ 80 ⌝ ∗ ⌜ j ≤ 80 ⌝ }
     ensures { λ r. ⌜ r ≡ subTriangle i j fu fv fw ⌝ }
 {
-    let corner = LatticePoint { a: i, b: j };
-    let beside_a = LatticePoint { a: i + 1, b: j };
-    let beside_b = LatticePoint { a: i, b: j + 1 };
+    let corner = LatticeCoordinates { a: i, b: j };
+    let beside_a = LatticeCoordinates { a: i + 1, b: j };
+    let beside_b = LatticeCoordinates { a: i, b: j + 1 };
     if fu + fv + fw < 1.5 {
         SubTriangle {
             first: beside_a,
@@ -193,7 +194,7 @@ fn sub_triangle(i: usize, j: usize, fu: f64, fv: f64, fw: f64) -> SubTriangle
         SubTriangle {
             first: beside_b,
             second: beside_a,
-            third: LatticePoint { a: i + 1, b: j + 1 },
+            third: LatticeCoordinates { a: i + 1, b: j + 1 },
             weights: Weights::new(1.0 - fu, 1.0 - fv, 1.0 - fw),
         }
     }
@@ -227,27 +228,27 @@ fn sub_triangle_on(n: usize, face: MasterFace, p: Vector3) -> SubTriangle
 }
 
 // The slot of a lattice point, brought into the face.
-fn clamped_slot(n: usize, q: LatticePoint) -> usize
+fn clamped_slot(n: usize, q: LatticeCoordinates) -> usize
     requires { ⌜ n ≤ 80 ⌝ }
     ensures { λ r. ⌜ r ≡ clampedSlot n q ⌝ }
 {
-    let a = least(q.a, n);
-    let b = least(q.b, n - a);
+    let a = lesser(q.a, n);
+    let b = lesser(q.b, n - a);
     tri_index(n, a, b)
 }
 
 // The id that the table has at a lattice point of a face.
-fn id_at(n: usize, id_table: &[u16], face: usize, q: LatticePoint) -> u16
-    requires { ⌜ (n ≤ 80) × (face < 20) × (20 * slotsPerFace n ≤ length (now «id_table»)) ⌝ }
+fn id_at(n: usize, id_table: &[u16], face: usize, q: LatticeCoordinates) -> u16
+    requires { ⌜ n ≤ 80 ⌝ ∗ ⌜ face < 20 ⌝ ∗ ⌜ 20 * slotsPerFace n ≤ length (now «id_table») ⌝ }
     ensures { λ r. ⌜ r ≡ idAt n (now («id_table» .entry)) face q ⌝ }
 {
     let index = face * slots_per_face(n) + clamped_slot(n, q);
     id_table[index]
 }
 
-fn triple_of(n: usize, id_table: &[u16], face: usize, t: SubTriangle) -> Triple
-    requires { ⌜ (n ≤ 80) × (face < 20) × (20 * slotsPerFace n ≤ length (now «id_table»)) ⌝ }
-    ensures { λ r. ⌜ r ≡ tripleOf n (now («id_table» .entry)) face t ⌝ }
+fn corner_ids(n: usize, id_table: &[u16], face: usize, t: SubTriangle) -> Triple
+    requires { ⌜ n ≤ 80 ⌝ ∗ ⌜ face < 20 ⌝ ∗ ⌜ 20 * slotsPerFace n ≤ length (now «id_table») ⌝ }
+    ensures { λ r. ⌜ r ≡ cornerIds n (now («id_table» .entry)) face t ⌝ }
 {
     let first = id_at(n, id_table, face, t.first);
     let second = id_at(n, id_table, face, t.second);
@@ -259,8 +260,8 @@ fn triple_of(n: usize, id_table: &[u16], face: usize, t: SubTriangle) -> Triple
     }
 }
 
-fn ids_below(count: usize, t: Triple) -> bool
-    ensures { λ r. ⌜ r ≡ idsBelow count t ⌝ }
+fn triple_below(count: usize, t: Triple) -> bool
+    ensures { λ r. ⌜ r ≡ tripleBelow count t ⌝ }
 {
     ((t.first as usize) < count) & ((t.second as usize) < count) & ((t.third as usize) < count)
 }
@@ -293,13 +294,10 @@ fn refused(reason: Refusal) -> Met
 
 // Rows 1, 8, 9, 10 and 4, and the triangle of the lattice that a direction meets. The ids are tested before they are given out.
 fn meet(frequency: u32, id_table: &[u16], direction: Vector3) -> Met
-    ensures { λ r. ⌜ metLocation (r .verdict) (r .triple) (r .weights) ≡ locate frequency (now («id_table» .entry)) direction ⌝ }
+    ensures { λ r. ⌜ metLocation (r .verdict) (r .triple) (r .weights) ≡ analyticLocate frequency (now («id_table» .entry)) direction ⌝ }
 {
     let n = frequency as usize;
-    if n < 1 {
-        return refused(Refusal::new(1));
-    }
-    if n > 80 {
+    if !frequency_fits(n) {
         return refused(Refusal::new(1));
     }
     if id_table.len() < 20 * slots_per_face(n) {
@@ -309,11 +307,11 @@ fn meet(frequency: u32, id_table: &[u16], direction: Vector3) -> Met
         return refused(Refusal::new(9));
     }
     match master_face(direction) {
-        FaceChoice::Refused(why) => refused(why),
+        FaceChoice::Refused(reason) => refused(reason),
         FaceChoice::Face(face) => {
             let t = sub_triangle_on(n, master_face_of(face), direction);
-            let triple = triple_of(n, id_table, face, t);
-            if ids_below(vertex_count(n), triple) {
+            let triple = corner_ids(n, id_table, face, t);
+            if triple_below(lattice_vertex_count(n), triple) {
                 let weights = t.weights;
                 Met {
                     verdict: Verdict::Passed,
@@ -329,12 +327,12 @@ fn meet(frequency: u32, id_table: &[u16], direction: Vector3) -> Met
 
 // The triangle of the lattice of a frequency that a direction meets, with its weights.
 pub fn locate(frequency: u32, id_table: &[u16], direction: Vector3) -> Location
-    ensures { λ r. ⌜ r ≡ locate frequency (now («id_table» .entry)) direction ⌝ }
+    ensures { λ r. ⌜ r ≡ analyticLocate frequency (now («id_table» .entry)) direction ⌝ }
 {
     let met = meet(frequency, id_table, direction);
     let verdict = met.verdict;
     match verdict {
-        Verdict::Refused(why) => Location::Refused(why),
+        Verdict::Refused(reason) => Location::Refused(reason),
         Verdict::Passed => {
             let triple = met.triple;
             let weights = met.weights;
@@ -357,13 +355,13 @@ fn last_greatest(t: Triple, weights: Weights) -> u16
 }
 
 // The corner of the located triangle with the greatest weight.
-pub fn find_nearest_vertex(frequency: u32, id_table: &[u16], direction: Vector3) -> Nearest
-    ensures { λ r. ⌜ r ≡ findNearestVertex frequency (now («id_table» .entry)) direction ⌝ }
+pub fn find_nearest_vertex(frequency: u32, id_table: &[u16], direction: Vector3) -> NearestCorner
+    ensures { λ r. ⌜ r ≡ analyticNearest frequency (now («id_table» .entry)) direction ⌝ }
 {
     let met = meet(frequency, id_table, direction);
     let verdict = met.verdict;
     match verdict {
-        Verdict::Refused(why) => Nearest::Refused(why),
-        Verdict::Passed => Nearest::Vertex(last_greatest(met.triple, met.weights)),
+        Verdict::Refused(reason) => NearestCorner::Refused(reason),
+        Verdict::Passed => NearestCorner::Vertex(last_greatest(met.triple, met.weights)),
     }
 }

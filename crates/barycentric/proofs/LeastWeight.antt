@@ -4,13 +4,14 @@ use mathlib.Core.Logic.{_⊎_, inl, inr}
 use mathlib.Core.Bool.{Bool, true, false, _&&_, _||_, false≢true}
 use lib.Dec.{T}
 use lib.Ieee.{Float, binary64, lt, le, isNan, fits}
+use Rattle.booleans.proofs.Booleans.{and-split, or-either}
 use Rattle.binary64.specs.Minimum.{minimumNumber}
-use Rattle.binary64.proofs.Flags.{and-both, or-either}
 use Rattle.binary64.proofs.LessThan.{le-lt-transitive}
 use Rattle.binary64.proofs.Minimum.{minimum-operand, minimum-nan, first-not-below, second-not-below, still-not-below}
 use Rattle.binary64.proofs.MinimumRank.{minimum-commutes, minimum-associates}
-use Rattle.barycentric.specs.declared.Weights.{Weights}
-use Rattle.barycentric.specs.Weights.{weights, leastWeight}
+use Rattle.vector.specs.declared.Weights.{Weights}
+use Rattle.vector.specs.Triangle.{weights}
+use Rattle.barycentric.specs.LeastWeight.{leastWeight}
 
 pub least-weight-nan : (t : Weights) → isNan (leastWeight t) ≡ (isNan (t .u) && isNan (t .v) && isNan (t .w))
 unfolding leastWeight
@@ -33,7 +34,7 @@ none-below-least t =
     }
   where
     both : isNan (minimumNumber (t .u) (t .v)) ≡ true → (isNan (t .u) ≡ true) × (isNan (t .v) ≡ true)
-    both e = and-both (isNan (t .u)) (isNan (t .v)) (sym (minimum-nan (t .u) (t .v)) ∙ e)
+    both e = and-split (isNan (t .u)) (isNan (t .v)) (sym (minimum-nan (t .u) (t .v)) ∙ e)
 
 -- So a weight that is at most a bound says that the least does not exceed it, and no minimum need be taken.
 pub least-not-above : (t : Weights) (bound : Float) → ((le (t .u) bound || le (t .v) bound) || le (t .w) bound) ≡ true → lt bound (leastWeight t) ≡ false

@@ -1,2 +1,2 @@
-pub mod Weights
+pub mod LeastWeight
 pub mod Ericson

@@ -1,34 +1,12 @@
 // Barycentric weights of a point in a triangle, and the least of them.
 ghost use mathlib.Core.Path.{_≡_};
-ghost use Rattle.barycentric.specs.Weights.{weights, leastWeight};
+ghost use Rattle.barycentric.specs.LeastWeight.{leastWeight};
 ghost use Rattle.barycentric.specs.Ericson.{projectedBarycentric};
 use binary64::minimum_number;
 use fused::mul_add;
 use fused::product_at_most;
 use vector::Vector3;
-
-// The ids of a triangle's corners, as both locators answer them.
-pub struct Triple {
-    pub first: u16,
-    pub second: u16,
-    pub third: u16,
-}
-
-// The weights of a triangle's corners, in their order.
-#[repr(C)]
-pub struct Weights {
-    pub u: f64,
-    pub v: f64,
-    pub w: f64,
-}
-
-impl Weights {
-    pub fn new(u: f64, v: f64, w: f64) -> Self
-        ensures { λ r. ⌜ r ≡ weights u v w ⌝ }
-    {
-        Self { u, v, w }
-    }
-}
+use vector::Weights;
 
 // The weights of the point of the triangle a, b, c that is closest to p (Christer Ericson, Real-Time Collision Detection, Morgan Kaufmann 2005, pp. 141–142).
 // The tests ask for the signs of vc, vb and va; the values are worked out in the face region alone.

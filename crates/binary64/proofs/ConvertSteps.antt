@@ -11,7 +11,7 @@ use lib.Pow.{pow-pos, suc-ones}
 use lib.Ieee.{Float, nan, inf, fin, lt, le, ne, up, down, toSigned}
 use lib.Ieee.Compare.{nan-differs}
 use lib.Ieee.Fits.{down-pos}
-use Rattle.binary64.proofs.Flags.{or-left-fails}
+use Rattle.booleans.proofs.Booleans.{or-left-fails}
 
 -- a magnitude n / d of 2 ^ h or more, by the products of the comparison
 reaches : (h n d : ℕ) → 0 < d → 1 * 2 ^ h * d ≤ n * 1 → 2 ^ h ≤ n / d

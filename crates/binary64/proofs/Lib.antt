@@ -1,6 +1,5 @@
 pub mod Nan
 pub mod Tests
-pub mod Flags
 pub mod FloatOrder
 pub mod LessThan
 pub mod SignMagnitude

@@ -4,8 +4,8 @@ use mathlib.Core.Logic.{_⊎_, inl, inr}
 use mathlib.Core.Bool.{Bool, true, false, _&&_, _||_, cond, true≢false, false≢true}
 use lib.IntN.{pos}
 use lib.Ieee.{Float, nan, inf, fin, lt, eq, isNan}
+use Rattle.booleans.proofs.Booleans.{and-split, or-either, or-left-fails}
 use Rattle.binary64.specs.Minimum.{isZero, belowOrNegativeZero, minimumNumber, SameButZeroSign}
-use Rattle.binary64.proofs.Flags.{and-both, or-either, or-left-fails}
 use Rattle.binary64.proofs.FloatOrder.{lt-left-number}
 use Rattle.binary64.proofs.LessThan.{lt-irreflexive, lt-transitive}
 use Rattle.binary64.proofs.Zeros.{zero-number, zeros-equal, zeros-alike, same-above, same-nan, same-zero, same-symmetric, same-transitive}
@@ -44,7 +44,7 @@ minimum-skips-nan (fin s m e) = (refl, refl)
 -- ---- what "less" says, for this operation
 less-number : (y x : Float) → belowOrNegativeZero y x ≡ true → isNan y ≡ false
 unfolding belowOrNegativeZero
-less-number y x h = or-either (lt y x) (isZero true y && isZero false x) h (λ l. lt-left-number y x l) (λ z. zero-number true y (and-both (isZero true y) (isZero false x) z .0))
+less-number y x h = or-either (lt y x) (isZero true y && isZero false x) h (λ l. lt-left-number y x l) (λ z. zero-number true y (and-split (isZero true y) (isZero false x) z .0))
 
 not-less : (y x : Float) → belowOrNegativeZero y x ≡ false → lt y x ≡ false
 unfolding belowOrNegativeZero
@@ -55,7 +55,7 @@ less-below : (z y x : Float) → belowOrNegativeZero y x ≡ true → lt z x ≡
 unfolding belowOrNegativeZero
 less-below z y x h k =
     or-either (lt y x) (isZero true y && isZero false x) h (λ l. decide (lt z y) refl l)
-    (λ zeros. let both = and-both (isZero true y) (isZero false x) zeros in zeros-alike true false y x z (both .0) (both .1) .0 ∙ k)
+    (λ zeros. let both = and-split (isZero true y) (isZero false x) zeros in zeros-alike true false y x z (both .0) (both .1) .0 ∙ k)
   where
     decide : (b : Bool) → lt z y ≡ b → lt y x ≡ true → lt z y ≡ false
     decide true g l = absurd (false≢true (sym k ∙ lt-transitive z y x g l))
@@ -67,7 +67,7 @@ unfolding minimumNumber belowOrNegativeZero
 first-is-minimum x y number apart above = rw (number, above) (decide (isZero true y && isZero false x) refl)
   where
     decide : (b : Bool) → (isZero true y && isZero false x) ≡ b → x ≡ cond b y x
-    decide true zeros = let both = and-both (isZero true y) (isZero false x) zeros in absurd (true≢false (sym (zeros-equal false true x y (both .1) (both .0)) ∙ apart))
+    decide true zeros = let both = and-split (isZero true y) (isZero false x) zeros in absurd (true≢false (sym (zeros-equal false true x y (both .1) (both .0)) ∙ apart))
     decide false zeros = refl
 
 -- ---- NaN is skipped
@@ -99,7 +99,7 @@ unfolding minimumNumber belowOrNegativeZero
 minimum-same x x′ y h = go (isNan x) (isNan x′) (lt y x) (lt y x′) (isZero true y && isZero false x) (isZero true y && isZero false x′) (same-nan x x′ h) (same-above x x′ y h) refl refl
   where
     zeros : (z : Float) → (isZero true y && isZero false z) ≡ true → (isZero true y ≡ true) × (isZero false z ≡ true)
-    zeros z e = and-both (isZero true y) (isZero false z) e
+    zeros z e = and-split (isZero true y) (isZero false z) e
 
     go : (a a′ b b′ c c′ : Bool) → a ≡ a′ → b ≡ b′ → (isZero true y && isZero false x) ≡ c → (isZero true y && isZero false x′) ≡ c′
         → SameButZeroSign (cond a y (cond (b || c) y x)) (cond a′ y (cond (b′ || c′) y x′))
@@ -123,7 +123,7 @@ earlier-same x y = go (isNan x) (lt y x) (isZero true y && isZero false x) refl
     go true b c z = inl refl
     go false true c z = inl refl
     go false false false z = inl refl
-    go false false true z = let both = and-both (isZero true y) (isZero false x) z in inr (true, false, both .0, both .1)
+    go false false true z = let both = and-split (isZero true y) (isZero false x) z in inr (true, false, both .0, both .1)
 
 -- So with two operations in turn, each of which differs from minimumNumber in the sign of a zero at most.
 pub minima-same : (first second : Float → Float → Float) → ((x y : Float) → SameButZeroSign (minimumNumber x y) (first x y)) → ((x y : Float) → SameButZeroSign (minimumNumber x y) (second x y))

@@ -12,10 +12,10 @@ use lib.Ieee.{Float, nan, inf, fin, binary64, up, down, size, prec, hid, top, lt
 use lib.Ieee.Bits.{ofBits-toBits, toBits-lt, nanBits-is}
 use lib.Ieee.Fits.{up-pos, down-pos}
 use lib.Ieee.Nearest.{div-same}
+use Rattle.booleans.proofs.Booleans.{and-split}
 use Rattle.binary64.specs.TotalOrder.{totalOrder, rankOfBits, rankOf}
 use Rattle.binary64.specs.Minimum.{isZero, belowOrNegativeZero, minimumNumber}
 use Rattle.binary64.proofs.Nan.{only-nan}
-use Rattle.binary64.proofs.Flags.{and-both}
 use Rattle.binary64.proofs.Tests.{Tested, tested}
 use Rattle.binary64.proofs.LessThan.{factor-zero}
 use Rattle.binary64.proofs.TotalOrder.{rank-of-strictly-below, rank-of-lt, le-of-rank, rank-of-injective}
@@ -52,13 +52,13 @@ equal-cases (inf false) (inf false) h = inl refl
 equal-cases (inf s) (fin t n d) h = absurd (false≢true h)
 equal-cases (fin s m e) nan h = absurd (false≢true h)
 equal-cases (fin s m e) (inf t) h = absurd (false≢true h)
-equal-cases (fin true m e) (fin true n d) h = inl (same-encoding true m e n d (eqb-true (m * up e * down d) (n * up d * down e) (and-both _ _ h .0)))
-equal-cases (fin false m e) (fin false n d) h = inl (same-encoding false m e n d (eqb-true (m * up e * down d) (n * up d * down e) (and-both _ _ h .0)))
-equal-cases (fin true m e) (fin false n d) h = inr (inl (both-zero m e n d (and-both _ _ h)))
-equal-cases (fin false m e) (fin true n d) h = inr (inr (swapped (eqb m 0) (eqb n 0) (both-zero m e n d (and-both _ _ h))))
+equal-cases (fin true m e) (fin true n d) h = inl (same-encoding true m e n d (eqb-true (m * up e * down d) (n * up d * down e) (and-split _ _ h .0)))
+equal-cases (fin false m e) (fin false n d) h = inl (same-encoding false m e n d (eqb-true (m * up e * down d) (n * up d * down e) (and-split _ _ h .0)))
+equal-cases (fin true m e) (fin false n d) h = inr (inl (both-zero m e n d (and-split _ _ h)))
+equal-cases (fin false m e) (fin true n d) h = inr (inr (swapped (eqb m 0) (eqb n 0) (both-zero m e n d (and-split _ _ h))))
   where
     swapped : (p q : Bool) → (p && q) ≡ true → (q && p) ≡ true
-    swapped p q e = let both = and-both p q e in rw (both .0, both .1) refl
+    swapped p q e = let both = and-split p q e in rw (both .0, both .1) refl
 
 same-rank : (y x : Float) → toBits binary64 y ≡ toBits binary64 x → rankOf y ≡ rankOf x
 unfolding rankOf
@@ -70,7 +70,7 @@ unfolding rankOf
 negative-zero-first = lit< tt
 
 zeros-ranked : (y x : Float) → T (fits binary64 y) → T (fits binary64 x) → ZerosApart y x → rankOf y < rankOf x
-zeros-ranked y x fy fx h = let both = and-both (isZero true y) (isZero false x) h in rw (zero-is true y fy (both .0), zero-is false x fx (both .1)) negative-zero-first
+zeros-ranked y x fy fx h = let both = and-split (isZero true y) (isZero false x) h in rw (zero-is true y fy (both .0), zero-is false x fx (both .1)) negative-zero-first
 
 nan-last : (x : Float) → T (fits binary64 x) → isNan x ≡ false → rankOf x < rankOf nan
 unfolding rankOf totalOrder isNan

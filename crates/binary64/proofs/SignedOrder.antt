@@ -14,7 +14,7 @@ use lib.Ieee.Fits.{and-i, and-l, and-r, eq→eqb, down-pos}
 use lib.Ieee.Order.{transfer}
 use lib.Ieee.Positive.{positive}
 use mir.Facts.{or-yes}
-use Rattle.binary64.proofs.Flags.{or-left, or-right}
+use Rattle.booleans.proofs.Booleans.{or-l, or-r}
 
 -- ±a is at most ±b; the two zeros are equal.
 abbrev pub SignedLe : Bool → ℕ → Bool → ℕ → Type 0
@@ -64,7 +64,7 @@ at-most-says a b p q same h =
 
 at-most-passes : (a b p q : ℕ) → (a ≡ b → p ≡ q) → a ≤ b → T (ltb a b || (eqb p q && true))
 at-most-passes a b p q same h =
-    elim (eq-or-lt-of-le h) [ inl e ↦ or-right (ltb a b) (eqb p q && true) (and-i (eqb p q) true (eq→eqb (same e)) tt) | inr l ↦ or-left (ltb a b) (eqb p q && true) (lt→ltb a b l) ]
+    elim (eq-or-lt-of-le h) [ inl e ↦ or-r (ltb a b) (eqb p q && true) (and-i (eqb p q) true (eq→eqb (same e)) tt) | inr l ↦ or-l (ltb a b) (eqb p q && true) (lt→ltb a b l) ]
 
 test-says : (s : Bool) (a : ℕ) (t : Bool) (b : ℕ) → T (below s a t b || level s a t b) → SignedLe s a t b
 test-says false a false b h = at-most-says a b a b (λ e. e) h
@@ -76,8 +76,8 @@ test-passes : (s : Bool) (a : ℕ) (t : Bool) (b : ℕ) → SignedLe s a t b →
 test-passes false a false b h = at-most-passes a b a b (λ e. e) h
 test-passes false a true b h = let p : a ≡ 0 = omega arith in let q : b ≡ 0 = omega arith in rw (p, q) tt
 test-passes true zero false zero h = tt
-test-passes true zero false (suc b) h = or-left (ltb 0 (0 + suc b)) _ (lt→ltb 0 (0 + suc b) (omega arith))
-test-passes true (suc a) false b h = or-left (ltb 0 (suc a + b)) _ (lt→ltb 0 (suc a + b) (omega arith))
+test-passes true zero false (suc b) h = or-l (ltb 0 (0 + suc b)) _ (lt→ltb 0 (0 + suc b) (omega arith))
+test-passes true (suc a) false b h = or-l (ltb 0 (suc a + b)) _ (lt→ltb 0 (suc a + b) (omega arith))
 test-passes true a true b h = at-most-passes b a a b sym h
 
 -- ---- other fractions of the same value

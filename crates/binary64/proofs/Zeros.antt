@@ -9,8 +9,8 @@ use lib.Dec.{T, eqb}
 use lib.IntN.{pos}
 use lib.Ieee.{Float, nan, inf, fin, binary64, up, down, lt, le, eq, isNan, fits}
 use lib.Ieee.Back.{whole-unique}
+use Rattle.booleans.proofs.Booleans.{and-split, signs-equal}
 use Rattle.binary64.specs.Minimum.{isZero, SameButZeroSign}
-use Rattle.binary64.proofs.Flags.{and-both, signs-equal}
 use Rattle.binary64.proofs.LessThan.{le-lt-transitive, lt-le-transitive}
 
 -- The format has one zero of each sign.
@@ -18,7 +18,7 @@ pub zero-is : (s : Bool) (x : Float) → T (fits binary64 x) → isZero s x ≡ 
 zero-is s nan fx h = absurd (false≢true h)
 zero-is s (inf t) fx h = absurd (false≢true h)
 zero-is s (fin t m e) fx h =
-    let both = and-both (Bool·beq s t) (eqb m 0) h in
+    let both = and-split (Bool·beq s t) (eqb m 0) h in
     let none : m ≡ 0 = eqb-true m 0 (both .1) in
     whole-unique binary64 (fin t m e) (fin s 0 (pos 0)) s 0 fx (unfold fits in tt) (sym (signs-equal s t (both .0)), ap (λ (k : ℕ). k * up e * 1) none ∙ ap (λ (k : ℕ). k * 1) (zero-mul (up e)) ∙ sym (zero-mul (down e))) (refl, refl)
 
@@ -36,8 +36,8 @@ zeros-equal s t (inf u) y h k = absurd (false≢true h)
 zeros-equal s t (fin u m e) nan h k = absurd (false≢true k)
 zeros-equal s t (fin u m e) (inf v) h k = absurd (false≢true k)
 zeros-equal s t (fin u m e) (fin v n d) h k =
-    let a : m ≡ 0 = eqb-true m 0 (and-both (Bool·beq s u) (eqb m 0) h .1) in
-    let b : n ≡ 0 = eqb-true n 0 (and-both (Bool·beq t v) (eqb n 0) k .1) in
+    let a : m ≡ 0 = eqb-true m 0 (and-split (Bool·beq s u) (eqb m 0) h .1) in
+    let b : n ≡ 0 = eqb-true n 0 (and-split (Bool·beq t v) (eqb n 0) k .1) in
     rw (a, b, zero-mul (up e), zero-mul (up d), zero-mul (down d), zero-mul (down e)) (or-true (Bool·beq u v))
 
 zeros-at-most : (s t : Bool) (x y : Float) → isZero s x ≡ true → isZero t y ≡ true → le x y ≡ true

@@ -3,3 +3,4 @@ pub mod Integral
 pub mod Convert
 pub mod Minimum
 pub mod Absolute
+pub mod Constants

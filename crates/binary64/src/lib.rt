@@ -3,7 +3,8 @@
 ghost use mathlib.Core.Path.{_≡_};
 ghost use mathlib.Core.Bool.{true};
 ghost use lib.Dec.{T};
-ghost use lib.Ieee.{lt, le, ofBits, binary64};
+ghost use lib.Ieee.{lt, le};
+ghost use Rattle.binary64.specs.Constants.{positiveZero};
 ghost use Rattle.binary64.specs.TotalOrder.{totalOrdering, rankOfBits, rankOf};
 ghost use Rattle.binary64.specs.Minimum.{minimumNumber};
 ghost use Rattle.binary64.specs.Integral.{floorOf, ceilOf};
@@ -97,7 +98,7 @@ pub fn ceil(x: f64) -> f64
 
 // A positive x without its fraction. From 2^53 on there is none.
 fn whole_part(x: f64) -> f64
-    requires { ⌜ T (lt (ofBits binary64 0) x) ⌝ }
+    requires { ⌜ T (lt positiveZero x) ⌝ }
     ensures { λ r. ⌜ r ≡ floorOf x ⌝ }
 {
     if x < 9007199254740992.0 {

@@ -13,7 +13,7 @@ use Rattle.sequences.proofs.Tabulate.{length-overwrite, take-overwrite}
 use Rattle.refusal.specs.declared.Verdict.{Verdict}
 use Rattle.refusal.specs.declared.Verdict.the-variants.{Passed}
 use Rattle.icosahedron.specs.Slots.{slotsPerFace}
-use Rattle.lattice.specs.Lattice.{LatticeSlices, LatticeOutcome, latticeMesh, idTable, slicesFit, filled, latticeGeometry, outcome}
+use Rattle.lattice.specs.Lattice.{LatticeSlices, LatticeOutcome, latticeMesh, idTable, latticeSlicesFit, filledLattice, latticeGeometry, latticeOutcome}
 use Rattle.lattice.proofs.Counts.{lattice-vertex-count}
 use Rattle.lattice.proofs.Neighbours.{length-positions, mesh-count}
 use Rattle.lattice.proofs.ListLengths.{lattice-entry-count}
@@ -37,8 +37,8 @@ module _ (n : ℕ) (lo : 1 ≤ n) (hi : n ≤ 4) where
       omega (arith, length-id-table n)
 
   module _ (lent : LatticeSlices) (p : 486 ≤ length (lent .positions)) (s : 163 ≤ length (lent .starts)) (e : 960 ≤ length (lent .entries)) (t : 300 ≤ length (lent .ids)) where
-    long : slicesFit n lent ≡ true
-    unfolding slicesFit
+    long : latticeSlicesFit n lent ≡ true
+    unfolding latticeSlicesFit
     long =
         let positions : length (latticeMesh n .positions) ≤ length (lent .positions) = omega (arith, length-positions n, lattice-vertex-count n lo, square-few) in
         let starts : length (latticeMesh n .starts) ≤ length (lent .starts) = omega (arith, starts-length, square-few) in
@@ -46,7 +46,7 @@ module _ (n : ℕ) (lo : 1 ≤ n) (hi : n ≤ 4) where
         let ids : length (idTable n) ≤ length (lent .ids) = omega (arith, ids-few) in
         rw (le-leb _ _ positions, le-leb _ _ starts, le-leb _ _ entries, le-leb _ _ ids) refl
 
-    pub geometry-filled : (mark : Bool) → latticeGeometry n lent mark ≡ record { verdict = Passed; slices = filled n lent; mark = true }
+    pub geometry-filled : (mark : Bool) → latticeGeometry n lent mark ≡ record { answered = Passed; slices = filledLattice n lent; mark = true }
     unfolding latticeGeometry
     geometry-filled mark = rw (frequency-fits n lo (omega arith), long) refl
 
@@ -58,8 +58,8 @@ pub record Filled (n : ℕ) (starts entries : List ℕ) : Type 0 where
   pub entries-front : take (60 * (n * n)) entries ≡ latticeMesh n .entries
 
 pub geometry-left : (n : ℕ) → 1 ≤ n → n ≤ 4 → {verdict : Verdict} {positions : List Float} {starts entries ids : List ℕ} {mark₁ : Bool} (mark : Bool) (lent : LatticeSlices) → 486 ≤ length (lent .positions)
-    → 163 ≤ length (lent .starts) → 960 ≤ length (lent .entries) → 300 ≤ length (lent .ids) → outcome verdict positions starts entries mark₁ ids ≡ latticeGeometry n lent mark → Filled n starts entries
-unfolding filled
+    → 163 ≤ length (lent .starts) → 960 ≤ length (lent .entries) → 300 ≤ length (lent .ids) → latticeOutcome verdict positions starts entries mark₁ ids ≡ latticeGeometry n lent mark → Filled n starts entries
+unfolding filledLattice
 geometry-left n lo hi {verdict} {positions} {starts} {entries} {ids} mark lent p s e t h =
     let left = h ∙ geometry-filled n lo hi lent p s e t mark in
     let starts-are : starts ≡ overwrite (latticeMesh n .starts) (lent .starts) = ap (λ (o : LatticeOutcome). o .slices .starts) left in

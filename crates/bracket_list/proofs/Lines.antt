@@ -9,8 +9,7 @@ use Rattle.sequences.specs.Starts.{part, concatenate, CompressedRows}
 use Rattle.sequences.proofs.Starts.{concatenate-suc, length-concatenate, start-monotone, rows-within}
 use Rattle.sequences.proofs.Tabulate.{slice-as-take}
 use Rattle.bracket_list.specs.Text.{space, opening, closing, lineFeed, spaced, decimal, bracketed, field, line}
-use Rattle.bracket_list.specs.LatticeList.{latticeWord, frequencyWord, verticesWord, entriesWord}
-use Rattle.bracket_list.specs.Output.{headText, vertexText, verticesText, walkText, listingText}
+use Rattle.bracket_list.specs.LatticeList.{latticeWord, frequencyWord, verticesWord, entriesWord, headLine, vertexLine, vertexLines, walkLine, listing}
 
 -- "(v ", " (", "))" and a line feed
 abbrev pub vertexStart : List ℕ
@@ -19,8 +18,8 @@ vertexStart = 40 ∷ 118 ∷ 32 ∷ []
 abbrev pub listStart : List ℕ
 listStart = 32 ∷ 40 ∷ []
 
-abbrev pub lineEnd : List ℕ
-lineEnd = 41 ∷ 41 ∷ 10 ∷ []
+abbrev pub lineClosing : List ℕ
+lineClosing = 41 ∷ 41 ∷ 10 ∷ []
 
 -- "(walk ("
 abbrev pub walkStart : List ℕ
@@ -36,18 +35,18 @@ headVertices = 41 ∷ 32 ∷ 40 ∷ 118 ∷ 101 ∷ 114 ∷ 116 ∷ 105 ∷ 99 �
 abbrev pub headEntries : List ℕ
 headEntries = 41 ∷ 32 ∷ 40 ∷ 101 ∷ 110 ∷ 116 ∷ 114 ∷ 105 ∷ 101 ∷ 115 ∷ 32 ∷ []
 
-pub vertex-pieces : (v : ℕ) (list : List ℕ) → (((vertexStart ++ decimal v) ++ listStart) ++ spaced list) ++ lineEnd ≡ vertexText v list
-unfolding vertexText
+pub vertex-pieces : (v : ℕ) (list : List ℕ) → (((vertexStart ++ decimal v) ++ listStart) ++ spaced list) ++ lineClosing ≡ vertexLine v list
+unfolding vertexLine
 vertex-pieces v list = simp append-assoc
 
-pub vertex-size : (v : ℕ) (list : List ℕ) → length (vertexText v list) ≡ 8 + length (decimal v) + length (spaced list)
+pub vertex-size : (v : ℕ) (list : List ℕ) → length (vertexLine v list) ≡ 8 + length (decimal v) + length (spaced list)
 vertex-size v list = ap length (sym (vertex-pieces v list)) ∙ simp length-append (omega arith)
 
-pub walk-pieces : (queue : List ℕ) → (walkStart ++ spaced queue) ++ lineEnd ≡ walkText queue
-unfolding walkText
+pub walk-pieces : (queue : List ℕ) → (walkStart ++ spaced queue) ++ lineClosing ≡ walkLine queue
+unfolding walkLine
 walk-pieces queue = simp append-assoc
 
-pub walk-size : (queue : List ℕ) → length (walkText queue) ≡ 10 + length (spaced queue)
+pub walk-size : (queue : List ℕ) → length (walkLine queue) ≡ 10 + length (spaced queue)
 walk-size queue = ap length (sym (walk-pieces queue)) ∙ simp length-append (omega arith)
 
 regroup : (a b c d e f g : List ℕ) → (((((a ++ b) ++ c) ++ d) ++ e) ++ f) ++ g ≡ a ++ (b ++ (c ++ (d ++ (e ++ (f ++ g)))))
@@ -59,51 +58,50 @@ bracketed-then word digits rest = simp append-assoc
 fields-then : (word f v e : List ℕ) → line (bracketed (word ++ (f ++ (space ∷ (v ++ (space ∷ e)))))) ≡ opening ∷ (word ++ (f ++ (space ∷ (v ++ (space ∷ (e ++ (closing ∷ lineFeed ∷ [])))))))
 fields-then word f v e = simp append-assoc
 
-pub head-pieces : (f v e : ℕ) → (((((headStart ++ decimal f) ++ headVertices) ++ decimal v) ++ headEntries) ++ decimal e) ++ lineEnd ≡ headText f v e
-unfolding headText
+pub head-pieces : (f v e : ℕ) → (((((headStart ++ decimal f) ++ headVertices) ++ decimal v) ++ headEntries) ++ decimal e) ++ lineClosing ≡ headLine f v e
+unfolding headLine
 head-pieces f v e =
-    regroup headStart (decimal f) headVertices (decimal v) headEntries (decimal e) lineEnd
+    regroup headStart (decimal f) headVertices (decimal v) headEntries (decimal e) lineClosing
     ∙ sym (fields-then latticeWord (field frequencyWord f) (field verticesWord v) (field entriesWord e)
     ∙ ap (λ (r : List ℕ). opening ∷ (latticeWord ++ r)) (bracketed-then frequencyWord (decimal f) _)
     ∙ ap (λ (r : List ℕ). headStart ++ (decimal f ++ (closing ∷ space ∷ r))) (bracketed-then verticesWord (decimal v) _)
     ∙ ap (λ (r : List ℕ). headStart ++ (decimal f ++ (headVertices ++ (decimal v ++ (closing ∷ space ∷ r))))) (bracketed-then entriesWord (decimal e) (closing ∷ lineFeed ∷ [])))
 
-pub head-size : (f v e : ℕ) → length (headText f v e) ≡ 46 + length (decimal f) + length (decimal v) + length (decimal e)
+pub head-size : (f v e : ℕ) → length (headLine f v e) ≡ 46 + length (decimal f) + length (decimal v) + length (decimal e)
 head-size f v e = ap length (sym (head-pieces f v e)) ∙ simp length-append (omega arith)
 
-module _ (starts entries : List ℕ) where
-  abbrev pub vertexLineAt : ℕ → List ℕ
-  vertexLineAt v = vertexText v (part starts entries v)
+module _ (lists : ℕ → List ℕ) where
+  abbrev lineOf : ℕ → List ℕ
+  lineOf v = vertexLine v (lists v)
 
-  pub vertices-none : verticesText starts entries 0 ≡ []
-  unfolding verticesText concatenate
+  pub vertices-none : vertexLines 0 lists ≡ []
+  unfolding vertexLines concatenate
   vertices-none = refl
 
   -- one vertex more
-  pub vertices-suc : (v : ℕ) → verticesText starts entries (suc v) ≡ verticesText starts entries v ++ vertexLineAt v
-  unfolding verticesText
-  vertices-suc v = concatenate-suc v vertexLineAt
+  pub vertices-suc : (v : ℕ) → vertexLines (suc v) lists ≡ vertexLines v lists ++ lineOf v
+  unfolding vertexLines
+  vertices-suc v = concatenate-suc v lineOf
 
   -- there is room for the next line
-  pub vertices-room : (v n : ℕ) → v < n → length (verticesText starts entries v) + length (vertexLineAt v) ≤ length (verticesText starts entries n)
-  unfolding verticesText
+  pub vertices-room : (v n : ℕ) → v < n → length (vertexLines v lists) + length (lineOf v) ≤ length (vertexLines n lists)
+  unfolding vertexLines
   vertices-room v n lt =
       omega (
         arith,
-        simp length-append at (ap length (concatenate-suc v vertexLineAt)),
-        length-concatenate (suc v) vertexLineAt,
-        length-concatenate n vertexLineAt,
-        start-monotone vertexLineAt (suc v) n lt,
+        simp length-append at (ap length (concatenate-suc v lineOf)),
+        length-concatenate (suc v) lineOf,
+        length-concatenate n lineOf,
+        start-monotone lineOf (suc v) n lt,
       )
 
-pub listing-pieces : (f n : ℕ) (starts entries queue : List ℕ)
-    → (headText f n (length entries) ++ verticesText starts entries n) ++ walkText queue ≡ listingText f n starts entries queue
-unfolding listingText
-listing-pieces f n starts entries queue = append-assoc (headText f n (length entries)) (verticesText starts entries n) (walkText queue)
+module _ (f n e : ℕ) (lists : ℕ → List ℕ) (queue : List ℕ) where
+  pub listing-pieces : (headLine f n e ++ vertexLines n lists) ++ walkLine queue ≡ listing f n e lists queue
+  unfolding listing
+  listing-pieces = append-assoc (headLine f n e) (vertexLines n lists) (walkLine queue)
 
-pub listing-size : (f n : ℕ) (starts entries queue : List ℕ)
-    → length (listingText f n starts entries queue) ≡ length (headText f n (length entries)) + length (verticesText starts entries n) + length (walkText queue)
-listing-size f n starts entries queue = ap length (sym (listing-pieces f n starts entries queue)) ∙ simp length-append (omega arith)
+  pub listing-size : length (listing f n e lists queue) ≡ length (headLine f n e) + length (vertexLines n lists) + length (walkLine queue)
+  listing-size = ap length (sym listing-pieces) ∙ simp length-append (omega arith)
 
 -- the list of a vertex, as it is cut from the entries
 pub record RowAt (n : ℕ) (starts entries : List ℕ) (v : ℕ) : Type 0 where

@@ -2,14 +2,14 @@
 use Prim.Native.Nat.{ℕ, zero, suc, _+_, _-_, _*_, _≤_}
 use native.Mathlib.Nat.{mul-le-mul}
 use native.Mathlib.Omega.{arith}
-use mathlib.Core.Path.{_≡_, refl, ap, _∙_}
+use mathlib.Core.Path.{_≡_, ap, _∙_}
 use mathlib.Core.List.{List}
 use lib.ListN.{length, take, getD, length-append}
 use Rattle.sequences.specs.Starts.{part, CompressedRows}
 use Rattle.sequences.proofs.Starts.{part-length}
 use Rattle.sequences.proofs.Tabulate.{take-overwrite}
 use Rattle.refusal.specs.declared.Verdict.the-variants.{Passed}
-use Rattle.mesh.specs.Mesh.{Mesh, count, neighbours}
+use Rattle.mesh.specs.Mesh.{count, neighbours}
 use Rattle.mesh.specs.Rows.{adjacencyRows}
 use Rattle.mesh.proofs.Facts.{adjacency-facts}
 use Rattle.walk.specs.declared.Reach.{Reach}
@@ -22,26 +22,22 @@ use Rattle.lattice.proofs.Counts.{lattice-vertex-count}
 use Rattle.lattice.proofs.Neighbours.{mesh-count}
 use Rattle.lattice.proofs.ListLengths.{lattice-entry-count}
 use Rattle.lattice.proofs.Rows.{lattice-rows}
-use Rattle.bracket_list.specs.LatticeList.{headLine, vertexLine, walkLine, meshListing}
-use Rattle.bracket_list.specs.Output.{headText, vertexText, verticesText, walkText, listingText, LatticeRows}
+use Rattle.bracket_list.specs.LatticeList.{vertexLines, listing, meshListing}
+use Rattle.bracket_list.specs.Output.{LatticeRows}
 use Rattle.bracket_list.proofs.Numerals.{length-decimal}
 use Rattle.bracket_list.proofs.Spaces.{length-spaced}
 use Rattle.bracket_list.proofs.Lines.{vertex-size, walk-size, head-size, vertices-none, vertices-suc, listing-size}
 
-mesh-listing : (n : ℕ) (m : Mesh) → listingText n (count m) (m .starts) (m .entries) (breadthFirst (count m) (part (m .starts) (m .entries)) .queue) ≡ meshListing n m
-unfolding meshListing listingText headLine headText verticesText vertexLine vertexText walkLine walkText neighbours
-mesh-listing n m = refl
-
 -- ---- how long a listing is, with ten digits for each number
 
-vertices-limit : (n : ℕ) (starts entries : List ℕ) → CompressedRows n starts entries → (v : ℕ) → v ≤ n → length (verticesText starts entries v) ≤ 18 * v + 11 * getD starts v 0
-vertices-limit n starts entries rows zero le = rw (vertices-none starts entries) (omega arith)
+vertices-limit : (n : ℕ) (starts entries : List ℕ) → CompressedRows n starts entries → (v : ℕ) → v ≤ n → length (vertexLines v (part starts entries)) ≤ 18 * v + 11 * getD starts v 0
+vertices-limit n starts entries rows zero le = rw (vertices-none (part starts entries)) (omega arith)
 vertices-limit n starts entries rows (suc v) le =
     let before = vertices-limit n starts entries rows v (omega arith) in
     let list = part starts entries v in
     omega (
       arith,
-      simp length-append at (ap length (vertices-suc starts entries v)),
+      simp length-append at (ap length (vertices-suc (part starts entries) v)),
       vertex-size v list,
       length-decimal v,
       length-spaced list,
@@ -50,11 +46,11 @@ vertices-limit n starts entries rows (suc v) le =
     )
 
 listing-limit : (f n : ℕ) (starts entries queue : List ℕ) → CompressedRows n starts entries
-    → length (listingText f n starts entries queue) ≤ 86 + 18 * n + 11 * length entries + 11 * length queue
+    → length (listing f n (length entries) (part starts entries) queue) ≤ 86 + 18 * n + 11 * length entries + 11 * length queue
 listing-limit f n starts entries queue rows =
     omega (
       arith,
-      listing-size f n starts entries queue,
+      listing-size f n (length entries) (part starts entries) queue,
       head-size f n (length entries),
       length-decimal f,
       length-decimal n,
@@ -70,7 +66,6 @@ listing-limit f n starts entries queue rows =
 pub record Listable (n : ℕ) : Type 0 where
   pub passed : adjacencyRows (latticeMesh n) ≡ Passed
   pub starts-size : length (latticeMesh n .starts) ≡ suc (count (latticeMesh n))
-  pub some : 1 ≤ count (latticeMesh n)
   pub vertices : count (latticeMesh n) ≤ 162
   pub entries : length (latticeMesh n .entries) ≤ 960
 
@@ -82,7 +77,6 @@ listable n lo hi =
     record {
       passed = passed;
       starts-size = facts .rows .size;
-      some = facts .some;
       vertices = omega (arith, mesh-count n, lattice-vertex-count n lo);
       entries = omega (arith, lattice-entry-count n lo);
     }
@@ -114,16 +108,14 @@ module _ {n : ℕ} {starts entries : List ℕ} (lent : LatticeRows n starts entr
     pub reach-few : reach .vertices ≤ 162
     reach-few = omega (arith, holding-at-most (t .holds), size, few)
 
-    pub listing-is : listingText n (length starts - 1) starts entries (take (reach .vertices) queue) ≡ meshListing n (latticeMesh n)
+    pub listing-is : listing n (length starts - 1) (length entries) (part starts entries) (take (reach .vertices) queue) ≡ meshListing n (latticeMesh n)
+    unfolding meshListing neighbours
     listing-is =
-        let c = size ∙ count-is in
-        let q = queue-front t in
-        let whole : listingText n (length starts - 1) starts entries (breadthFirst k (part starts entries) .queue)
-        ≡ listingText n (count (latticeMesh n)) (latticeMesh n .starts) (latticeMesh n .entries)
-        (breadthFirst (count (latticeMesh n)) (part (latticeMesh n .starts) (latticeMesh n .entries)) .queue) = cc (count-is, lent .starts-are, lent .entries-are) in
-        ap (listingText n (length starts - 1) starts entries) q ∙ whole ∙ mesh-listing n (latticeMesh n)
+        let counted = size ∙ count-is in
+        let walked = queue-front t in
+        cc (count-is, counted, walked, lent .starts-are, lent .entries-are)
 
-    pub listing-fits : length (listingText n (length starts - 1) starts entries (take (reach .vertices) queue)) ≤ 16384
+    pub listing-fits : length (listing n (length starts - 1) (length entries) (part starts entries) (take (reach .vertices) queue)) ≤ 16384
     listing-fits =
         omega (
           arith,

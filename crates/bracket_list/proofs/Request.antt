@@ -11,8 +11,7 @@ use lib.Seq.{drop-cons, drop-length}
 use borrow.Author.Tests.{eq-eqb, ne-eqb}
 use Rattle.sequences.specs.Equality.{sameNumbers}
 use Rattle.lattice.specs.Lattice.{latticeMesh}
-use Rattle.bracket_list.specs.LatticeList.{meshListing, refusedLine, request, latticeListing}
-use Rattle.bracket_list.specs.Output.{requestedFrequency}
+use Rattle.bracket_list.specs.LatticeList.{meshListing, refusedLine, request, requestedFrequency, latticeListing}
 
 -- texts of different lengths differ
 pub same-lengths : (a b : List ℕ) → (length a ≡ length b → ⊥) → sameNumbers a b ≡ false
@@ -41,44 +40,24 @@ pub same-end : (a b : List ℕ) → length a ≡ length b → (i : ℕ) → i �
 unfolding sameNumbers
 same-end a b e i h = rw (h) (rw (drop-length a) (rw e (rw (drop-length b) refl)))
 
--- what is listed, by the frequency that was asked for
-abbrev listedFor : ℕ → List ℕ
-listedFor n = meshListing n (latticeMesh n)
-
-pub record Asked (n : ℕ) (listing : List ℕ) : Type 0 where
-  pub least : 1 ≤ n
-  pub greatest : n ≤ 4
-  pub listed : listing ≡ listedFor n
-
-abbrev chosen : Bool → Bool → Bool → Bool → List ℕ
-chosen a b c d = cond a (listedFor 1) (cond b (listedFor 2) (cond c (listedFor 3) (cond d (listedFor 4) refusedLine)))
-
-abbrev number : Bool → Bool → Bool → Bool → ℕ
-number a b c d = cond a 1 (cond b 2 (cond c 3 (cond d 4 0)))
-
-none-chosen : (a b c d : Bool) → number a b c d ≡ 0 → chosen a b c d ≡ refusedLine
-none-chosen true b c d e = let z : _≡_ {A = ℕ} 1 0 = e in absurd (omega arith)
-none-chosen false true c d e = let z : _≡_ {A = ℕ} 2 0 = e in absurd (omega arith)
-none-chosen false false true d e = let z : _≡_ {A = ℕ} 3 0 = e in absurd (omega arith)
-none-chosen false false false true e = let z : _≡_ {A = ℕ} 4 0 = e in absurd (omega arith)
-none-chosen false false false false e = refl
-
-some-chosen : (a b c d : Bool) → (number a b c d ≡ 0 → ⊥) → Asked (number a b c d) (chosen a b c d)
-some-chosen true b c d ne = record { least = omega arith; greatest = omega arith; listed = refl }
-some-chosen false true c d ne = record { least = omega arith; greatest = omega arith; listed = refl }
-some-chosen false false true d ne = record { least = omega arith; greatest = omega arith; listed = refl }
-some-chosen false false false true ne = record { least = omega arith; greatest = omega arith; listed = refl }
-some-chosen false false false false ne = absurd (ne refl)
+at-most : (b : Bool) {x y most : ℕ} → x ≤ most → y ≤ most → cond b x y ≤ most
+at-most true le rest = le
+at-most false le rest = rest
 
 -- n is what `requested` answers
 module _ (input : List ℕ) {n : ℕ} (answered : n ≡ requestedFrequency input) where
-  pub listing-refused : n ≡ 0 → latticeListing input ≡ refusedLine
-  unfolding requestedFrequency latticeListing
-  listing-refused e =
-      none-chosen (sameNumbers input (request 49)) (sameNumbers input (request 50)) (sameNumbers input (request 51)) (sameNumbers input (request 52)) (sym answered ∙ e)
-
-  pub listing-asked : (n ≡ 0 → ⊥) → Asked n (latticeListing input)
-  unfolding requestedFrequency latticeListing
-  listing-asked ne =
+  -- "N one digit from 1 to 4"
+  pub requested-few : n ≤ 4
+  unfolding requestedFrequency
+  requested-few =
+      let asks : ℕ → Bool = λ digit. sameNumbers input (request digit) in
       rw answered
-      (some-chosen (sameNumbers input (request 49)) (sameNumbers input (request 50)) (sameNumbers input (request 51)) (sameNumbers input (request 52)) (λ e. ne (answered ∙ e)))
+      (at-most (asks 49) (omega arith) (at-most (asks 50) (omega arith) (at-most (asks 51) (omega arith) (at-most (asks 52) (omega arith) (omega arith)))))
+
+  pub listing-refused : n ≡ 0 → latticeListing input ≡ refusedLine
+  unfolding latticeListing
+  listing-refused e = rw (← answered, eq-eqb n 0 e) refl
+
+  pub listing-asked : (n ≡ 0 → ⊥) → latticeListing input ≡ meshListing n (latticeMesh n)
+  unfolding latticeListing
+  listing-asked ne = rw (← answered, ne-eqb n 0 ne) refl

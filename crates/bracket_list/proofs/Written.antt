@@ -1,13 +1,11 @@
 -- Laws of texts written one behind another. Assumes nothing.
 use Prim.Native.Nat.{ℕ, suc, _+_, _≤_, _<_}
-use native.Mathlib.Nat.{add-zero, zero-add}
+use native.Mathlib.Nat.{add-zero}
 use native.Mathlib.Omega.{arith}
 use mathlib.Core.Path.{_≡_, refl, sym, ap, _∙_}
 use mathlib.Core.List.{List, [], _∷_, _++_}
-use lib.ListN.{length, take, drop, set, getD, length-append}
-use lib.Seq.{sets, sets-eq, take-suc, length-take-le}
-use Rattle.sequences.specs.Tabulate.{overwrite}
-use Rattle.sequences.proofs.Tabulate.{take-overwrite}
+use lib.ListN.{length, take, set, getD, length-append}
+use lib.Seq.{sets, take-suc, length-take-le}
 use Rattle.bracket_list.specs.Output.{Written}
 
 pub sets-append : (a b l : List ℕ) (i : ℕ) → sets (sets l i a) (i + length a) b ≡ sets l i (a ++ b)
@@ -32,15 +30,6 @@ written-then {place} {middle} {next} {a} {b} {l} {m} {r} first second = record {
 -- the same text, written otherwise
 pub written-as : {place next : ℕ} {a b l r : List ℕ} → a ≡ b → Written place a l next r → Written place b l next r
 written-as {place} {next} {a} {b} {l} {r} e w = rw e at w
-
--- what was written from the first place on overwrites the front, and is read by cutting it off
-pub written-overwrites : {next : ℕ} {text l r : List ℕ} → Written 0 text l next r → r ≡ overwrite text l
-unfolding overwrite
-written-overwrites {next} {text} {l} w =
-    w .stored ∙ sets-eq text l 0 (omega (arith, w .behind, w .within)) ∙ ap (λ (k : ℕ). text ++ drop k l) (zero-add (length text))
-
-pub written-front : {next : ℕ} {text l r : List ℕ} → Written 0 text l next r → take next r ≡ text
-written-front {next} {text} {l} w = ap (take next) (written-overwrites w) ∙ take-overwrite text l next (omega (arith, w .behind))
 
 -- one byte more of a text
 pub written-byte : (place i : ℕ) (text l m : List ℕ) → i < length text → m ≡ sets l place (take i text) → set m (place + i) (getD text i 0) ≡ sets l place (take (suc i) text)

@@ -2,6 +2,7 @@
 use Prim.Native.Nat.{ℕ}
 use mathlib.Core.Bool.{cond}
 use mathlib.Core.List.{List, [], _∷_, _++_}
+use lib.Dec.{eqb}
 use lib.ListN.{length}
 use Rattle.sequences.specs.Starts.{concatenate}
 use Rattle.sequences.specs.Equality.{sameNumbers}
@@ -30,23 +31,30 @@ abbrev pub walkWord : List ℕ
 walkWord = 119 ∷ 97 ∷ 108 ∷ 107 ∷ 32 ∷ []
 
 -- "frequency, vertices and entries"
-unfoldable pub headLine : ℕ → Mesh → List ℕ
-headLine n m =
+unfoldable pub headLine : ℕ → ℕ → ℕ → List ℕ
+headLine frequency vertices entries =
     line
-    (bracketed
-    (latticeWord ++ (field frequencyWord n ++ (space ∷ (field verticesWord (count m) ++ (space ∷ field entriesWord (length (m .entries))))))))
+    (bracketed (latticeWord ++ (field frequencyWord frequency ++ (space ∷ (field verticesWord vertices ++ (space ∷ field entriesWord entries))))))
 
 -- "each id with its neighbours"
-unfoldable pub vertexLine : Mesh → ℕ → List ℕ
-vertexLine m v = line (bracketed (vertexWord ++ (decimal v ++ (space ∷ bracketed (spaced (neighbours m v))))))
+unfoldable pub vertexLine : ℕ → List ℕ → List ℕ
+vertexLine v list = line (bracketed (vertexWord ++ (decimal v ++ (space ∷ bracketed (spaced list)))))
+
+-- The lines of n vertices, one behind another.
+unfoldable pub vertexLines : ℕ → (ℕ → List ℕ) → List ℕ
+vertexLines n lists = concatenate n (λ v. vertexLine v (lists v))
 
 -- "old ids in walk order"
-unfoldable pub walkLine : Mesh → List ℕ
-walkLine m = line (bracketed (walkWord ++ bracketed (spaced (breadthFirst (count m) (neighbours m) .queue))))
+unfoldable pub walkLine : List ℕ → List ℕ
+walkLine queue = line (bracketed (walkWord ++ bracketed (spaced queue)))
 
--- "Every line ends with a line feed."
+-- "the lines below", of n vertices and their lists. "Every line ends with a line feed."
+unfoldable pub listing : ℕ → ℕ → ℕ → (ℕ → List ℕ) → List ℕ → List ℕ
+listing frequency n entries lists queue = headLine frequency n entries ++ (vertexLines n lists ++ walkLine queue)
+
+-- The lines of a mesh and its walk.
 unfoldable pub meshListing : ℕ → Mesh → List ℕ
-meshListing n m = headLine n m ++ (concatenate (count m) (vertexLine m) ++ walkLine m)
+meshListing frequency m = listing frequency (count m) (length (m .entries)) (neighbours m) (breadthFirst (count m) (neighbours m) .queue)
 
 -- "A refusal prints `(refused 1)` alone."
 abbrev pub refusedLine : List ℕ
@@ -56,10 +64,14 @@ refusedLine = 40 ∷ 114 ∷ 101 ∷ 102 ∷ 117 ∷ 115 ∷ 101 ∷ 100 ∷ 32 
 abbrev pub request : ℕ → List ℕ
 request digit = 40 ∷ 108 ∷ 97 ∷ 116 ∷ 116 ∷ 105 ∷ 99 ∷ 101 ∷ 32 ∷ digit ∷ 41 ∷ 10 ∷ []
 
--- What the program prints for what it read. Anything else, extra bytes, a missing line feed or an early end is refused.
+-- The N that an input asks for; 0 for anything else, as extra bytes, a missing line feed or an early end.
+unfoldable pub requestedFrequency : List ℕ → ℕ
+requestedFrequency input =
+    cond (sameNumbers input (request 49)) 1
+    (cond (sameNumbers input (request 50)) 2 (cond (sameNumbers input (request 51)) 3 (cond (sameNumbers input (request 52)) 4 0)))
+
+-- What the program prints for what it read.
 unfoldable pub latticeListing : List ℕ → List ℕ
 latticeListing input =
-    cond (sameNumbers input (request 49)) (meshListing 1 (latticeMesh 1))
-    (cond (sameNumbers input (request 50)) (meshListing 2 (latticeMesh 2))
-    (cond (sameNumbers input (request 51)) (meshListing 3 (latticeMesh 3))
-    (cond (sameNumbers input (request 52)) (meshListing 4 (latticeMesh 4)) refusedLine)))
+    let n = requestedFrequency input in
+    cond (eqb n 0) refusedLine (meshListing n (latticeMesh n))

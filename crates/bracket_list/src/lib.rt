@@ -3,12 +3,12 @@ ghost use Prim.Native.Nat.{_+_, _≤_, _<_};
 ghost use mathlib.Core.Path.{_≡_};
 ghost use mathlib.Core.List.{[], _∷_};
 ghost use lib.ListN.{length};
-ghost use Rattle.sequences.specs.Starts.{CompressedRows};
+ghost use Rattle.sequences.specs.Starts.{part, CompressedRows};
 ghost use Rattle.lattice.specs.Lattice.{latticeMesh};
 ghost use Rattle.bracket_list.specs.Text.{decimal, spaced};
-ghost use Rattle.bracket_list.specs.LatticeList.{meshListing, latticeListing};
+ghost use Rattle.bracket_list.specs.LatticeList.{headLine, vertexLine, vertexLines, walkLine, listing, meshListing, requestedFrequency, latticeListing};
 ghost use Rattle.sequences.specs.Equality.{sameNumbers};
-ghost use Rattle.bracket_list.specs.Output.{Written, separated, headText, vertexText, verticesText, walkText, listingText, requestedFrequency, LatticeRows};
+ghost use Rattle.bracket_list.specs.Output.{Written, separated, LatticeRows};
 
 fn put_byte(output: &mut [u8], place: usize, byte: u8) -> usize
     requires { ⌜ place < length (now output) ⌝ }
@@ -83,8 +83,8 @@ fn put_spaced_u32(output: &mut [u8], place: usize, numbers: &[u32]) -> usize
 
 // The line of a vertex: its id and its neighbours.
 fn put_vertex(output: &mut [u8], place: usize, vertex: u32, list: &[u16]) -> usize
-    requires { ⌜ place + length (vertexText vertex (now list)) ≤ length (now output) ⌝ }
-    ensures { λ r. ⌜ Written place (vertexText vertex (now (list .entry))) (now (output .entry)) r (now (output .exit)) ⌝ }
+    requires { ⌜ place + length (vertexLine vertex (now list)) ≤ length (now output) ⌝ }
+    ensures { λ r. ⌜ Written place (vertexLine vertex (now (list .entry))) (now (output .entry)) r (now (output .exit)) ⌝ }
 {
     let id = put_text(output, place, b"(v ");
     let opening = put_decimal(output, id, vertex);
@@ -101,9 +101,8 @@ fn put_vertices(
     starts: &[u32],
     entries: &[u16],
 ) -> usize
-    requires { ⌜ CompressedRows count (now starts) (now entries) ⌝ }
-    requires { ⌜ (count ≤ 65536) × (place + length (verticesText (now starts) (now entries) count) ≤ length (now output)) ⌝ }
-    ensures { λ r. ⌜ Written place (verticesText (now (starts .entry)) (now (entries .entry)) count) (now (output .entry)) r (now (output .exit)) ⌝ }
+    requires { ⌜ CompressedRows count (now starts) (now entries) ⌝ ∗ ⌜ count ≤ 65536 ⌝ ∗ ⌜ place + length (vertexLines count (part (now starts) (now entries))) ≤ length (now output) ⌝ }
+    ensures { λ r. ⌜ Written place (vertexLines count (part (now (starts .entry)) (now (entries .entry)))) (now (output .entry)) r (now (output .exit)) ⌝ }
 {
     let mut next = place;
     let mut v = 0;
@@ -118,8 +117,8 @@ fn put_vertices(
 
 // The line of the frequency and the counts.
 fn put_head(output: &mut [u8], place: usize, frequency: u32, vertices: u32, entries: u32) -> usize
-    requires { ⌜ place + length (headText frequency vertices entries) ≤ length (now output) ⌝ }
-    ensures { λ r. ⌜ Written place (headText frequency vertices entries) (now (output .entry)) r (now (output .exit)) ⌝ }
+    requires { ⌜ place + length (headLine frequency vertices entries) ≤ length (now output) ⌝ }
+    ensures { λ r. ⌜ Written place (headLine frequency vertices entries) (now (output .entry)) r (now (output .exit)) ⌝ }
 {
     let first = put_text(output, place, b"(lattice (frequency ");
     let first_end = put_decimal(output, first, frequency);
@@ -132,8 +131,8 @@ fn put_head(output: &mut [u8], place: usize, frequency: u32, vertices: u32, entr
 
 // The line of the old ids in walk order.
 fn put_walk(output: &mut [u8], place: usize, queue: &[u32]) -> usize
-    requires { ⌜ place + length (walkText (now queue)) ≤ length (now output) ⌝ }
-    ensures { λ r. ⌜ Written place (walkText (now (queue .entry))) (now (output .entry)) r (now (output .exit)) ⌝ }
+    requires { ⌜ place + length (walkLine (now queue)) ≤ length (now output) ⌝ }
+    ensures { λ r. ⌜ Written place (walkLine (now (queue .entry))) (now (output .entry)) r (now (output .exit)) ⌝ }
 {
     let ids = put_text(output, place, b"(walk (");
     let closing = put_spaced_u32(output, ids, queue);
@@ -149,9 +148,8 @@ fn write_listing(
     entries: &[u16],
     queue: &[u32],
 ) -> usize
-    requires { ⌜ CompressedRows count (now starts) (now entries) ⌝ }
-    requires { ⌜ (count ≤ 65536) × (length (listingText frequency count (now starts) (now entries) (now queue)) ≤ length (now output)) ⌝ }
-    ensures { λ r. ⌜ Written 0 (listingText frequency count (now (starts .entry)) (now (entries .entry)) (now (queue .entry))) (now (output .entry)) r (now (output .exit)) ⌝ }
+    requires { ⌜ CompressedRows count (now starts) (now entries) ⌝ ∗ ⌜ count ≤ 65536 ⌝ ∗ ⌜ length (listing frequency count (length (now entries)) (part (now starts) (now entries)) (now queue)) ≤ length (now output) ⌝ }
+    ensures { λ r. ⌜ Written 0 (listing frequency count (length (now (entries .entry))) (part (now (starts .entry)) (now (entries .entry))) (now (queue .entry))) (now (output .entry)) r (now (output .exit)) ⌝ }
 {
     let lines = put_head(output, 0, frequency, count as u32, entries.len() as u32);
     let walk = put_vertices(output, lines, count, starts, entries);
@@ -208,7 +206,7 @@ fn requested(input: &[u8]) -> u32
 
 // Makes the lattice of a frequency, and lists it.
 fn list_lattice(frequency: u32, output: &mut [u8; 16384]) -> usize
-    requires { ⌜ (1 ≤ frequency) × (frequency ≤ 4) ⌝ }
+    requires { ⌜ 1 ≤ frequency ⌝ ∗ ⌜ frequency ≤ 4 ⌝ }
     ensures { λ r. ⌜ Written 0 (meshListing frequency (latticeMesh frequency)) (now (output .entry)) r (now (output .exit)) ⌝ }
 {
     let mut positions = [0.0f64; 486];

@@ -13,15 +13,15 @@ use Rattle.refusal.specs.declared.Verdict.{Verdict}
 use Rattle.refusal.specs.declared.Verdict.the-variants as verdict
 use Rattle.walk.specs.declared.Walk.{Walk}
 use Rattle.walk.specs.declared.Walk.the-variants as walk
-use Rattle.barycentric.specs.Ericson.{zeroF}
+use Rattle.binary64.specs.Constants.{positiveZero}
 use Rattle.analytic.specs.declared.Signs.{Signs}
 use Rattle.master_face.specs.declared.Outside.{Outside}
 use Rattle.analytic.specs.declared.FaceChoice.{FaceChoice}
 use Rattle.analytic.specs.declared.FaceChoice.the-variants as choice
 use Rattle.analytic.specs.declared.Location.{Location}
 use Rattle.analytic.specs.declared.Location.the-variants as location
-use Rattle.analytic.specs.declared.Nearest as analytic
-use Rattle.analytic.specs.declared.Nearest.the-variants as vertex
+use Rattle.analytic.specs.declared.NearestCorner.{NearestCorner}
+use Rattle.analytic.specs.declared.NearestCorner.the-variants as corner
 use Rattle.grid_query.specs.declared.Nearest.{Nearest}
 use Rattle.grid_query.specs.declared.Nearest.the-variants as nearest
 use Rattle.grid_query.specs.declared.Located.{Located}
@@ -56,7 +56,7 @@ conversionAnswer converted = record { whole = converted .whole; how = conversion
 
 -- 0 for a direction that row 9 lets pass, and otherwise the refusal's number.
 abbrev pub directionCode : Direction → ℕ
-directionCode (Refused refusal) = refusal .number
+directionCode (Refused reason) = reason .number
 directionCode (Accepted vector) = 0
 
 -- 0 where all rows let pass, and otherwise the number of the first that refuses.
@@ -70,11 +70,11 @@ verdictAnswer (verdict.Refused reason) = record { refusal = reason .number; inde
 verdictAnswer verdict.Passed = record { refusal = 0; index = 0 }
 
 -- Three symmetry signs and three outside flags, as the classifier takes them.
-abbrev pub signsOf : Bool → Bool → Bool → Signs
-signsOf i j k = record { i = i; j = j; k = k }
+abbrev pub signsWith : Bool → Bool → Bool → Signs
+signsWith i j k = record { i = i; j = j; k = k }
 
-abbrev pub outsideOf : Bool → Bool → Bool → Outside
-outsideOf first second third = record { first = first; second = second; third = third }
+abbrev pub outsideWith : Bool → Bool → Bool → Outside
+outsideWith first second third = record { first = first; second = second; third = third }
 
 abbrev pub faceAnswer : FaceChoice → FaceAnswer
 faceAnswer (choice.Refused reason) = record { refusal = reason .number; face = 0 }
@@ -82,7 +82,7 @@ faceAnswer (choice.Face face) = record { refusal = 0; face = face }
 
 abbrev pub analyticAnswer : Location → AnalyticAnswer
 analyticAnswer (location.Refused reason) =
-    record { refusal = reason .number; first = 0; second = 0; third = 0; u = zeroF; v = zeroF; w = zeroF }
+    record { refusal = reason .number; first = 0; second = 0; third = 0; u = positiveZero; v = positiveZero; w = positiveZero }
 analyticAnswer (location.Located triple weights) = record {
   refusal = 0;
   first = triple .first;
@@ -93,9 +93,9 @@ analyticAnswer (location.Located triple weights) = record {
   w = weights .w;
 }
 
-abbrev pub vertexAnswer : analytic.Nearest → VertexAnswer
-vertexAnswer (vertex.Refused reason) = record { refusal = reason .number; id = 0 }
-vertexAnswer (vertex.Vertex id) = record { refusal = 0; id = id }
+abbrev pub vertexAnswer : NearestCorner → VertexAnswer
+vertexAnswer (corner.Refused reason) = record { refusal = reason .number; id = 0 }
+vertexAnswer (corner.Vertex id) = record { refusal = 0; id = id }
 
 abbrev pub walkAnswer : Walk → WalkAnswer
 walkAnswer (walk.Refused reason) = record { refusal = reason .number; «entries_read» = 0; index = reason .index }
@@ -106,13 +106,13 @@ buildAnswer (build.Refused reason) = record { refusal = reason .number; side = 0
 buildAnswer (build.Built side held) = record { refusal = 0; side = side; index = 0; held = held }
 
 abbrev pub nearestAnswer : Nearest → NearestAnswer
-nearestAnswer (nearest.Refused reason) = record { refusal = reason .number; id = 0; candidates = 0; distance = zeroF; index = reason .index }
+nearestAnswer (nearest.Refused reason) = record { refusal = reason .number; id = 0; candidates = 0; distance = positiveZero; index = reason .index }
 nearestAnswer (nearest.Found id distance candidates) =
     record { refusal = 0; id = id; candidates = candidates; distance = distance; index = 0 }
 
 abbrev pub locatedAnswer : Located → LocatedAnswer
 locatedAnswer (located.Refused reason) =
-    record { refusal = reason .number; first = 0; second = 0; third = 0; u = zeroF; v = zeroF; w = zeroF; least = zeroF; index = reason .index }
+    record { refusal = reason .number; first = 0; second = 0; third = 0; u = positiveZero; v = positiveZero; w = positiveZero; least = positiveZero; index = reason .index }
 locatedAnswer (located.At triple weights least) = record {
   refusal = 0;
   first = triple .first;

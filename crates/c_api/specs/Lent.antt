@@ -35,7 +35,7 @@ abbrev pub markLeft : VerdictAnswer → Bool → MarkLeft
 markLeft answer mark = record { answer = answer; mark = mark }
 
 abbrev pub markLeftOf : MarkOutcome → MarkLeft
-markLeftOf outcome = markLeft (verdictAnswer (outcome .verdict)) (outcome .mark)
+markLeftOf outcome = markLeft (verdictAnswer (outcome .answered)) (outcome .mark)
 
 -- A renumbering's answer, mesh, mark and data.
 pub record RenumberLeft : Type 0 where
@@ -48,7 +48,7 @@ abbrev pub renumberLeft : VerdictAnswer → Mesh → Bool → List Float → Ren
 renumberLeft answer mesh mark values = record { answer = answer; mesh = mesh; mark = mark; values = values }
 
 abbrev pub renumberLeftOf : RenumberOutcome → RenumberLeft
-renumberLeftOf outcome = renumberLeft (verdictAnswer (outcome .verdict)) (outcome .mesh) (outcome .mark) (outcome .values)
+renumberLeftOf outcome = renumberLeft (verdictAnswer (outcome .answered)) (outcome .mesh) (outcome .mark) (outcome .values)
 
 -- What a call of `koshirga_lattice` leaves: its answer, the four slices and the mark.
 pub record LatticeLeft : Type 0 where
@@ -60,7 +60,7 @@ abbrev pub latticeLeft : ℕ → LatticeSlices → Bool → LatticeLeft
 latticeLeft refusal slices mark = record { refusal = refusal; slices = slices; mark = mark }
 
 abbrev pub latticeLeftOf : LatticeOutcome → LatticeLeft
-latticeLeftOf outcome = latticeLeft (verdictCode (outcome .verdict)) (outcome .slices) (outcome .mark)
+latticeLeftOf outcome = latticeLeft (verdictCode (outcome .answered)) (outcome .slices) (outcome .mark)
 
 -- What a call of `koshirga_build_grid` leaves.
 pub record BuildLeft : Type 0 where

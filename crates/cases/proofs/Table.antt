@@ -1,6 +1,6 @@
 -- Every row of the table holds, by evaluation. Assumes nothing.
 use mathlib.Core.Path.{refl}
-use lib.Ieee.{neg, mul, div, lt, le, ofInt, toUnsigned}
+use lib.Ieee.{neg, mul, div, lt, le, ofInt, toUnsigned, ofBits}
 use Rattle.sequences.specs.Range.{someBelow, sumBelow}
 use Rattle.sequences.specs.Tabulate.{tabulate}
 use Rattle.sequences.specs.Starts.{concatenate, startOf, startsOf, part}
@@ -24,5 +24,5 @@ use Rattle.cases.specs.Cases.{AllHold}
 use Rattle.cases.specs.Table.{table}
 
 pub all-hold : AllHold table
-unfolding neg mul div lt le ofInt toUnsigned someBelow sumBelow tabulate concatenate startOf startsOf part isMember filter filterRange abs toI64 roundToIntegral fusedMultiplyAdd squareRoot positionOf faceCorner slotOf latticePoints weightAt keyOf sameNumbers sameVertex firstPlaceFrom firstAppearances latticeVertices isStepUp isStep areNeighbours latticeList faceProjection dominantFace sideOf acrossCells near placedIn idsIn gridOf candidates
+unfolding neg mul div lt le ofInt toUnsigned someBelow sumBelow tabulate concatenate startOf startsOf part isMember filter filterRange abs toI64 roundToIntegral fusedMultiplyAdd squareRoot positionOf faceCorner slotOf latticePoints weightAt keyOf sameNumbers sameVertex firstPlaceFrom firstAppearances latticeVertices isStepUp isStep areNeighbours latticeList faceProjection dominantFace sideOf acrossCells near placedIn idsIn gridOf candidates ofBits
 all-hold = refl

@@ -13,7 +13,8 @@ use Rattle.root.specs.Root.{squareRoot}
 use Rattle.vector.specs.declared.Vector3.{Vector3}
 use Rattle.mesh.specs.Mesh.{meshOf}
 use Rattle.icosahedron.specs.Slots.{slotOf}
-use Rattle.lattice.specs.Lattice.{coordinates, latticeList}
+use Rattle.lattice.specs.Lattice.{latticeList}
+use Rattle.vector.specs.Vector.{coordinates}
 use Rattle.grid.specs.CubeFace.{dominantFace}
 use Rattle.grid.specs.Settings.{usualFactor, usualSettings}
 use Rattle.grid.specs.Cells.{sideOf, cellCount}
@@ -22,7 +23,7 @@ use Rattle.grid_query.specs.Cell.{candidates}
 
 pub data Question : Type 0 where
   -- a double, converted to a signed 64-bit whole number
-  conversionOf : Float → Question
+  integerFrom : Float → Question
   -- the side of the grid of so many vertices
   sideFor : ℕ → Question
   -- the slot of (a, b) in its face, at the frequency n: n, a, b
@@ -52,7 +53,7 @@ abbrev pub gridOfOne : Vector3 → Grid
 gridOfOne position = gridOf (meshOf (coordinates position) (0 ∷ 0 ∷ []) []) usualSettings
 
 abbrev pub answerTo : Question → Answer
-answerTo (conversionOf x) = integer (toI64 x)
+answerTo (integerFrom x) = integer (toI64 x)
 answerTo (sideFor count) = number (sideOf usualFactor count)
 answerTo (slotOfPoint n a b) = number (slotOf n a b)
 answerTo (neighboursOf n v) = numbers (latticeList n v)

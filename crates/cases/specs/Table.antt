@@ -4,26 +4,21 @@ use Prim.Native.Nat.{_+_, _-_, _^_}
 use mathlib.Core.Bool.{true, false}
 use mathlib.Core.List.{List, [], _∷_}
 use lib.IntN.{pos, negsuc}
-use lib.Ieee.{Float, fin}
+use lib.Ieee.{fin}
+use Rattle.binary64.specs.Constants.{positiveZero, one}
 use Rattle.vector.specs.Vector.{vector}
-use Rattle.cases.specs.Cases.{Case, Question, conversionOf, sideFor, slotOfPoint, neighboursOf, faceOf, cellsOfOne, rootOf, fusedOf, Answer, integer, number, numbers, double, cells}
+use Rattle.cases.specs.Cases.{Case, Question, integerFrom, sideFor, slotOfPoint, neighboursOf, faceOf, cellsOfOne, rootOf, fusedOf, Answer, integer, number, numbers, double, cells}
 
 infix 70 _gives_
 abbrev _gives_ : Question → Answer → Case
 question gives expected = record { question = question; expected = expected }
 
-abbrev zero : Float
-zero = fin false 0 (pos 0)
-
-abbrev one : Float
-one = fin false 1 (pos 0)
-
 abbrev pub table : List Case
 table =
     -- "−0.5 → 0, −1.5 → −1, 2^63 → 2^63 − 1"
-    conversionOf (fin true 1 (negsuc 0)) gives integer (pos 0)
-    ∷ conversionOf (fin true 3 (negsuc 0)) gives integer (negsuc 0)
-    ∷ conversionOf (fin false 1 (pos 63)) gives integer (pos (2 ^ 63 - 1))
+    integerFrom (fin true 1 (negsuc 0)) gives integer (pos 0)
+    ∷ integerFrom (fin true 3 (negsuc 0)) gives integer (negsuc 0)
+    ∷ integerFrom (fin false 1 (pos 63)) gives integer (pos (2 ^ 63 - 1))
     -- "12 → 2, 42 → 4, 64,002 → 124"
     ∷ sideFor 12 gives number 2
     ∷ sideFor 42 gives number 4
@@ -33,7 +28,7 @@ table =
     -- "(v 0 (1 2 3 6 7))" of the lattice of frequency 1
     ∷ neighboursOf 1 0 gives numbers (1 ∷ 2 ∷ 3 ∷ 6 ∷ 7 ∷ [])
     -- "(0, 0, −2) is face 5"
-    ∷ faceOf (vector zero zero (fin true 1 (pos 1))) gives number 5
+    ∷ faceOf (vector positiveZero positiveZero (fin true 1 (pos 1))) gives number 5
     -- "One vertex (1, 1, 1): cells 3, 11, 19, all others empty."
     ∷ cellsOfOne (vector one one one) gives cells (3 ∷ 11 ∷ 19 ∷ []) (0 ∷ 0 ∷ 0 ∷ [])
     -- "root(2.25) = 1.5"

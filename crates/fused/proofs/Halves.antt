@@ -8,15 +8,16 @@ use borrow.Author.Tests.{ltb-true}
 use lib.Dec.{T, lit<}
 use lib.IntN.{ℤ}
 use lib.Pow.{pow-add, pow-pos, pow-lt}
-use lib.Ieee.{Float, nan, inf, fin, binary64, up, down, unlike, round, sum, mul, add, neg, lt, fits}
+use lib.Ieee.{Float, nan, inf, fin, binary64, up, down, unlike, round, sum, mul, add, neg, lt, fits, ofBits}
 use lib.Ieee.Exact.{HasValue, round-exact}
 use lib.Ieee.Fits.{down-pos}
-use Rattle.binary64.proofs.Flags.{or-either}
+use Rattle.booleans.proofs.Booleans.{or-either}
 use Rattle.binary64.proofs.Integral.{significand-bound}
 use Rattle.rounding.proofs.Exact.{scaled-below}
 use Rattle.rounding.proofs.Sum.{sum-same}
 use Rattle.rounding.proofs.TiesToEven.{in-units}
-use Rattle.fused.specs.Fused.{fusedMultiplyAdd, half}
+use Rattle.fused.specs.Fused.{fusedMultiplyAdd}
+use Rattle.binary64.specs.Constants.{half}
 use Rattle.fused.proofs.Sign.{leastProduct}
 use Rattle.fused.proofs.Special.{special-factor-apart}
 
@@ -56,7 +57,7 @@ same-second w v = rw (one-mul v, one-mul (w * 2)) (sym (mul-assoc v (w * 2) 2) �
 
 -- by any fraction that the halved value equals
 added : (t : Bool) (a d : ℕ) (x : Float) → 0 < d → HasValue x t a (d * 2) → add binary64 x half ≡ sum binary64 t (a * 2) false (1 * (d * 2)) (d * 2 * 2)
-unfolding add
+unfolding add ofBits
 added t a d (fin s n g) D v =
     rw (v .0)
     (sum-same binary64 t false (n * up g * 2) (1 * down g) (down g * 2) (a * 2) (1 * (d * 2)) (d * 2 * 2) (mul-pos (down-pos g) (lit< tt)) (mul-pos (mul-pos D (lit< tt)) (lit< tt)) (same-first (n * up g) d a (down g) (v .1)) (same-second d (down g)))
@@ -67,7 +68,7 @@ not-tiny false m e h = or-either _ false h (λ l. subst (λ (k : ℕ). k < m * u
 not-tiny true m e h = subst (λ (k : ℕ). k < m * up e * 2 ^ 900) (one-mul (down e)) (ltb-true (1 * down e) (m * up e * 2 ^ 900) h)
 
 pub half-sum-apart : (x : Float) → T (fits binary64 x) → (lt leastProduct x || lt x (neg leastProduct)) ≡ true → add binary64 (mul binary64 x half) half ≡ fusedMultiplyAdd binary64 x half half
-unfolding mul fusedMultiplyAdd neg lt
+unfolding mul fusedMultiplyAdd neg lt ofBits
 half-sum-apart nan fit h = absurd (false≢true h)
 half-sum-apart (inf s) fit h = special-factor-apart binary64 (inf s) half half refl
 half-sum-apart (fin s m e) fit h = added (unlike s false) (m * up e * 1) (down e) (round binary64 (unlike s false) (m * up e * 1) (down e * 2)) (down-pos e) (halved s (unlike s false) m e fit (not-tiny s m e h))

@@ -7,7 +7,7 @@ use native.Mathlib.Nat.{mul-comm, mul-assoc, mul-left-comm, mul-pos}
 use native.Mathlib.Omega.{arith}
 use borrow.Author.Tests.{ne-eqb}
 use lib.Dec.{T, ltb→lt}
-use lib.Ieee.{Float, inf, fin, Format, up, down, unlike, le}
+use lib.Ieee.{Float, inf, fin, Format, up, down, unlike, le, ofBits}
 use lib.Ieee.Fits.{down-pos}
 use lib.Ieee.Positive.{positive, positive-finite}
 use lib.Ieee.Scale.{finite}
@@ -23,7 +23,7 @@ unlike-comm false true = refl
 unlike-comm false false = refl
 
 pub fused-monotone : (f : Format) → FusedKeepsOrder f
-unfolding fusedMultiplyAdd
+unfolding fusedMultiplyAdd ofBits
 fused-monotone f (fin s m e) (fin t n d) (fin t′ n′ d′) (fin u o g) A B B′ C not-below h =
     let factor = signed-of-not-below (fin s m e) s (m * up e) (down e) (refl, refl) not-below in
     let common = down e * (down g * down g) in
@@ -49,6 +49,7 @@ unfolding fusedMultiplyAdd
 fused-leaves-infinity f (fin false n d) (fin u o g) s Y Z = let some : 0 < n = ltb→lt 0 n Y in rw (ne-eqb n 0 (λ k. omega arith), unlike-plus s)
 
 pub fused-monotone-first : (f : Format) (x x′ y z : Float) → T (positive y) → T (finite z) → T (le x x′) → T (le (fusedMultiplyAdd f x y z) (fusedMultiplyAdd f x′ y z))
+unfolding ofBits
 fused-monotone-first f x x′ y z Y Z h =
     monotone-to-infinities (λ p. fusedMultiplyAdd f p y z) (λ s. fused-leaves-infinity f y z s Y Z)
     (λ p q P Q k. rw (factors-exchanged f p y z P (positive-finite y Y) Z, factors-exchanged f q y z Q (positive-finite y Y) Z) (fused-monotone f y p q z (positive-finite y Y) P Q Z (positive-not-below y Y) k)) x x′ h

@@ -17,7 +17,7 @@ use lib.Ieee.Fits.{up-pos, down-pos, and-l, and-r}
 use lib.Ieee.Order.{round-mono}
 use lib.Ieee.Positive.{first-pos, above, above-of-le}
 use lib.Ieee.Scale.{finite}
-use Rattle.binary64.proofs.Flags.{or-either}
+use Rattle.booleans.proofs.Booleans.{or-either}
 use Rattle.binary64.proofs.FloatOrder.{signs-apart, lt-asymmetric, le-not-lt, le-of-not-lt}
 use Rattle.binary64.proofs.Integral.{significand-bound}
 use Rattle.binary64.proofs.Negation.{neg-round}

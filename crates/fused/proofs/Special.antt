@@ -37,8 +37,8 @@ all-finite-test f x y z =
     ∙ equals-zero (finite x && (finite y && finite z))
 
 -- what a passed test says of each
-pub each-finite : (p q r : Bool) → (p && (q && r)) ≡ true → T p × T q × T r
-each-finite true true true e = (tt, tt, tt)
+pub each-finite : (p q r : Bool) → (p && (q && r)) ≡ true → T p × (T q × T r)
+each-finite true true true e = (tt, (tt, tt))
 each-finite true true false e = absurd (false≢true e)
 each-finite true false r e = absurd (false≢true e)
 each-finite false q r e = absurd (false≢true e)

@@ -1,8 +1,7 @@
 -- Fused multiply-add. Definitions only.
 use Prim.Native.Nat.{_*_}
-use mathlib.Core.Bool.{Bool, false, Bool·beq, cond}
+use mathlib.Core.Bool.{Bool, Bool·beq, cond}
 use lib.Dec.{eqb}
-use lib.IntN.{negsuc}
 use lib.Ieee.{Float, nan, inf, fin, Format, unlike, up, down, sum}
 
 -- An infinite product of the sign s, plus z. IEEE 754-2019, 6.1: exact; 7.2 d): invalid, so NaN, where z is an infinity of the other sign.
@@ -26,7 +25,3 @@ fusedMultiplyAdd f (fin s m e) (fin t n d) nan = nan
 fusedMultiplyAdd f (fin s m e) (fin t n d) (inf u) = inf u
 fusedMultiplyAdd f (fin s m e) (fin t n d) (fin u o g) =
     sum f (unlike s t) (m * up e * (n * up d) * down g) u (o * up g * (down e * down d)) (down e * down d * down g)
-
--- 0.5, in either format.
-abbrev pub half : Float
-half = fin false 1 (negsuc 0)

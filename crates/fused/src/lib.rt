@@ -4,11 +4,12 @@ ghost use mathlib.Core.Path.{_≡_};
 ghost use mathlib.Core.Bool.{false, _&&_};
 ghost use Prim.Native.Nat.{_+_, _-_, _*_, _^_, _<_};
 ghost use lib.Dec.{T};
-ghost use lib.Ieee.{binary64, ofBits, sum, neg, le};
+ghost use lib.Ieee.{binary64, sum, neg, le};
 ghost use lib.Ieee.Scale.{finite};
 ghost use Rattle.words.specs.Value.{value};
 ghost use Rattle.rounding.specs.Scale.{unpackedScale, productScale};
-ghost use Rattle.fused.specs.Fused.{fusedMultiplyAdd, half};
+ghost use Rattle.binary64.specs.Constants.{positiveZero, half};
+ghost use Rattle.fused.specs.Fused.{fusedMultiplyAdd};
 ghost use Rattle.fused.specs.Operands.{Nonzero, Alignable};
 use rounding::Unpacked;
 use words::TwoWords;
@@ -41,7 +42,7 @@ pub struct Scaled {
 // x * y, exactly, without the signs. The factors are halved, which leaves a sum room to carry; their
 // last bits are 0.
 fn exact_product(x: Unpacked, y: Unpacked) -> Scaled
-    requires { ⌜ Nonzero x × Nonzero y ⌝ }
+    requires { ⌜ Nonzero x ⌝ ∗ ⌜ Nonzero y ⌝ }
     ensures exact { λ r. ⌜ value (r .words) * 2 ^ (r .exponent) ≡ x .significand * 2 ^ (x .exponent) * (y .significand * 2 ^ (y .exponent)) * 2 ^ (productScale - unpackedScale - unpackedScale) ⌝ }
     ensures alignable { λ r. ⌜ Alignable (value (r .words)) × (r .exponent < 2 ^ 32) ⌝ }
 {
@@ -79,7 +80,7 @@ fn add_aligned(
     addend: TwoWords,
     exponent: u64,
 ) -> f64
-    requires { ⌜ (0 < value product + value addend) × (value product + value addend < 2 ^ 128) × (exponent < 2 ^ 32) ⌝ }
+    requires { ⌜ 0 < value product + value addend ⌝ ∗ ⌜ value product + value addend < 2 ^ 128 ⌝ ∗ ⌜ exponent < 2 ^ 32 ⌝ }
     ensures { λ r. ⌜ r ≡ sum binary64 «product_negative» (value product * 2 ^ exponent) «addend_negative» (value addend * 2 ^ exponent) (2 ^ productScale) ⌝ }
 {
     if product_negative == addend_negative {
@@ -111,7 +112,7 @@ fn align_and_add(
     addend_negative: bool,
     addend: Scaled,
 ) -> f64
-    requires { ⌜ Alignable (value (product .words)) × Alignable (value (addend .words)) × (product .exponent < 2 ^ 32) × (addend .exponent < 2 ^ 32) ⌝ }
+    requires { ⌜ Alignable (value (product .words)) ⌝ ∗ ⌜ Alignable (value (addend .words)) ⌝ ∗ ⌜ product .exponent < 2 ^ 32 ⌝ ∗ ⌜ addend .exponent < 2 ^ 32 ⌝ }
     ensures { λ r. ⌜ r ≡ sum binary64 «product_negative» (value (product .words) * 2 ^ (product .exponent)) «addend_negative» (value (addend .words) * 2 ^ (addend .exponent)) (2 ^ productScale) ⌝ }
 {
     if product.exponent < addend.exponent {
@@ -139,7 +140,7 @@ fn align_and_add(
 
 // a * b + c of finite values. Where a factor is 0 the product is exact.
 fn mul_add_finite(a: f64, b: f64, c: f64) -> f64
-    requires { ⌜ T (finite a) × T (finite b) × T (finite c) ⌝ }
+    requires { ⌜ T (finite a) ⌝ ∗ ⌜ T (finite b) ⌝ ∗ ⌜ T (finite c) ⌝ }
     ensures { λ r. ⌜ r ≡ fusedMultiplyAdd binary64 a b c ⌝ }
 {
     let x = rounding::unpack(a);
@@ -175,7 +176,7 @@ const NOT_TINY: f64 = 1.1830521861667747e-271;
 // Whether a * b - c, rounded once (IEEE 754-2019, 4.3.1), is at most 0. Where the product rounded alone is not c, it lies
 // on the same side of c, and the exact sum is not worked out.
 pub fn product_at_most(a: f64, b: f64, c: f64) -> bool
-    ensures { λ r. ⌜ r ≡ le (fusedMultiplyAdd binary64 a b (neg c)) (ofBits binary64 0) ⌝ }
+    ensures { λ r. ⌜ r ≡ le (fusedMultiplyAdd binary64 a b (neg c)) positiveZero ⌝ }
 {
     let product = a * b;
     if ((product < c) | (c < product)) & ((product > NOT_TINY) | (product < -NOT_TINY)) {

@@ -9,10 +9,10 @@ use Rattle.refusal.proofs.Rows.{then-passed}
 use Rattle.mesh.specs.Mesh.{Mesh, count}
 use Rattle.mesh.specs.Rows.{meshRows}
 use Rattle.mesh.proofs.Facts.{AdjacencyFacts, mesh-facts}
-use Rattle.grid.specs.declared.Settings.{Settings}
+use Rattle.grid.specs.declared.settings.Settings.{Settings}
 use Rattle.grid.specs.declared.Build.the-variants.{Built}
 use Rattle.grid.specs.Triangles.{trianglesAt}
-use Rattle.grid.specs.Grid.{Grid, GridSlices, idsIn, gridOf, buildRows, build, cut}
+use Rattle.grid.specs.Grid.{Grid, GridSlices, idsIn, gridOf, buildRows, buildGrid, cut}
 use Rattle.grid.proofs.Cells.{id-placed}
 use Rattle.grid.proofs.Triangles.{triangle-of-member, at-vertex}
 use Rattle.grid.proofs.Grid.{built-rows, cut-build}
@@ -34,10 +34,10 @@ grid-ids-below m settings facts = record {
       triangle-of-member m facts (corner .0) (at-vertex m (listed .0) (corner .0) (corner .1) .0) .below _ (corner .2);
 }
 
-built-adjacency : (m : Mesh) (settings : Settings) (lent : GridSlices) (g held : ℕ) → build m settings lent .answered ≡ Built g held → AdjacencyFacts m
+built-adjacency : (m : Mesh) (settings : Settings) (lent : GridSlices) (g held : ℕ) → buildGrid m settings lent .answered ≡ Built g held → AdjacencyFacts m
 unfolding buildRows
 built-adjacency m settings lent g held h = mesh-facts m (then-passed (meshRows m) _ (built-rows m settings lent g held h) .0) .adjacency
 
 -- every accepted build: what it wrote is its slices, cut to the grid's lengths
-pub built-below : (m : Mesh) (settings : Settings) (lent : GridSlices) (g held : ℕ) → build m settings lent .answered ≡ Built g held → BuiltFacts (count m) (cut settings (count m) g (build m settings lent .slices))
+pub built-below : (m : Mesh) (settings : Settings) (lent : GridSlices) (g held : ℕ) → buildGrid m settings lent .answered ≡ Built g held → BuiltFacts (count m) (cut settings (count m) g (buildGrid m settings lent .slices))
 built-below m settings lent g held h = rw (cut-build m settings lent g held h) (grid-ids-below m settings (built-adjacency m settings lent g held h))

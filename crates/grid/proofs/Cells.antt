@@ -11,7 +11,7 @@ use Rattle.sequences.proofs.Ascending.{length-sort}
 use Rattle.sequences.proofs.Filter.{filter-range-member, member-filter-range, filter-range-ascending, filter-range-extensional, filter-range-bijection}
 use Rattle.mesh.specs.Mesh.{Mesh, count, positionOf}
 use Rattle.mesh.proofs.Renumbered.{Renumbered}
-use Rattle.grid.specs.declared.Settings.{Settings}
+use Rattle.grid.specs.declared.settings.Settings.{Settings}
 use Rattle.grid.specs.Cells.{sideOf, cellCount, placedIn}
 use Rattle.grid.specs.Grid.{idsIn, gridOf}
 

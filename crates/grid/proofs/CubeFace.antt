@@ -7,13 +7,14 @@ use mathlib.Core.Logic.{_⊎_, inl, inr}
 use mathlib.Core.Bool.{Bool, true, false, cond, _&&_, _||_, false≢true}
 use lib.Dec.{ltb, eqb}
 use lib.IntN.{ℤ}
-use lib.Ieee.{Float, nan, inf, fin, neg, lt, le, up, down, below, level}
+use lib.Ieee.{Float, nan, inf, fin, neg, lt, le, up, down, below, level, ofBits}
 use lib.Ieee.Fits.{up-pos}
 use borrow.Author.Tests.{lt-ltb, le-ltb, ne-eqb}
 use Rattle.sequences.specs.Range.{sumBelow}
 use Rattle.binary64.specs.Absolute.{abs}
 use Rattle.vector.specs.declared.Vector3.{Vector3}
-use Rattle.grid.specs.CubeFace.{faceProjection, zeroFloat}
+use Rattle.binary64.specs.Constants.{positiveZero}
+use Rattle.grid.specs.CubeFace.{faceProjection}
 
 -- ---- a comparison does not see the sign of a zero
 zero-left : (t : Bool) (a b : ℕ) → a ≡ 0 → (below true a t b || level true a t b) ≡ (below false a t b || level false a t b)
@@ -53,13 +54,13 @@ le-zero-right e (fin s m d) = zero-right s (m * up d * down e) (0 * up e * down 
 
 -- ---- a magnitude by a test is the absolute value, or a negative zero
 abbrev pub magnitudeByTest : Float → Float
-magnitudeByTest x = cond (lt x zeroFloat) (neg x) x
+magnitudeByTest x = cond (lt x positiveZero) (neg x) x
 
 abbrev Magnitude : Float → Type 0
 Magnitude x = (magnitudeByTest x ≡ abs x) ⊎ ((e : ℤ) × (magnitudeByTest x ≡ fin true 0 e) × (abs x ≡ fin false 0 e))
 
 magnitude-cases : (x : Float) → Magnitude x
-unfolding abs lt neg
+unfolding abs lt neg ofBits
 magnitude-cases nan = inl refl
 magnitude-cases (inf false) = inl refl
 magnitude-cases (inf true) = inl refl
@@ -87,17 +88,17 @@ magnitudes-compare x y = left-alike x (magnitudeByTest y) (magnitude-cases x) �
 
 -- ---- of two opposite faces a point is in front of one at most
 -- of a number and its negation at most one is above 0
-not-both : (x : Float) → lt zeroFloat x ≡ true → lt zeroFloat (neg x) ≡ false
-unfolding lt neg
+not-both : (x : Float) → lt positiveZero x ≡ true → lt positiveZero (neg x) ≡ false
+unfolding lt neg ofBits
 not-both nan h = absurd (false≢true h)
 not-both (inf true) h = absurd (false≢true h)
 not-both (inf false) h = refl
 not-both (fin true m e) h = absurd (false≢true h)
 not-both (fin false m e) h = refl
 
-module _ (v : Vector3) (each : ℕ → ℕ) (most : ℕ) (few : (face : ℕ) → each face ≤ most) (none : (face : ℕ) → lt zeroFloat (faceProjection face v .d) ≡ false → each face ≡ 0) where
+module _ (v : Vector3) (each : ℕ → ℕ) (most : ℕ) (few : (face : ℕ) → each face ≤ most) (none : (face : ℕ) → lt positiveZero (faceProjection face v .d) ≡ false → each face ≡ 0) where
   abbrev inFront : ℕ → Bool
-  inFront face = lt zeroFloat (faceProjection face v .d)
+  inFront face = lt positiveZero (faceProjection face v .d)
 
   opposite-most : (face other : ℕ) → (inFront face ≡ true → inFront other ≡ false) → each face + each other ≤ most
   opposite-most face other apart = go (inFront face) refl

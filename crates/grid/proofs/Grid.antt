@@ -12,11 +12,11 @@ use Rattle.refusal.specs.declared.Verdict.the-variants.{Passed}
 use Rattle.refusal.proofs.Rows.{answer-passed}
 use Rattle.mesh.specs.Mesh.{Mesh, count}
 use Rattle.grid.specs.declared.Build.the-variants.{Built}
-use Rattle.grid.specs.declared.Settings.{Settings}
+use Rattle.grid.specs.declared.settings.Settings.{Settings}
 use Rattle.grid.specs.Cells.{sideOf, cellCount}
 use Rattle.grid.specs.Triangles.{trianglesAt}
 use Rattle.grid.specs.Held.{heldConversions}
-use Rattle.grid.specs.Grid.{GridSlices, BuildOutcome, idsIn, gridOf, buildRows, filled, build, cut}
+use Rattle.grid.specs.Grid.{GridSlices, BuildOutcome, idsIn, gridOf, buildRows, filledGrid, buildGrid, cut}
 use Rattle.grid.proofs.Triangles.{triples-length}
 
 -- ---- the lengths of a grid, and where its starts end
@@ -46,15 +46,15 @@ module _ (m : Mesh) (settings : Settings) where
   triangle-starts-last = ap (λ (k : ℕ). k * 3) (starts-at (count m) (trianglesAt m) (count m) (omega arith)) ∙ sym triples-total
 
   -- ---- an accepted call
-  pub built-rows : (lent : GridSlices) (g held : ℕ) → build m settings lent .answered ≡ Built g held → buildRows m settings lent ≡ Passed
-  unfolding build
+  pub built-rows : (lent : GridSlices) (g held : ℕ) → buildGrid m settings lent .answered ≡ Built g held → buildRows m settings lent ≡ Passed
+  unfolding buildGrid
   built-rows lent g held h =
       answer-passed (λ (o : BuildOutcome). o .answered ≡ Built g held) (buildRows m settings lent) _ _ h
       (λ reason e. let z : _≡_ {A = ℕ} 0 1 = cc in omega arith)
 
-  module _ (lent : GridSlices) (g held : ℕ) (ok : buildRows m settings lent ≡ Passed) (h : build m settings lent .answered ≡ Built g held) where
+  module _ (lent : GridSlices) (g held : ℕ) (ok : buildRows m settings lent ≡ Passed) (h : buildGrid m settings lent .answered ≡ Built g held) where
     built-answer : Built (sideOf (settings .factor) (count m)) (heldConversions (m .positions) (sideOf (settings .factor) (count m))) ≡ Built g held
-    unfolding build
+    unfolding buildGrid
     built-answer = rw ok at h
 
     built-side : g ≡ gridOf m settings .side
@@ -64,11 +64,11 @@ module _ (m : Mesh) (settings : Settings) where
     built-count : held ≡ heldConversions (m .positions) (sideOf (settings .factor) (count m))
     built-count = let e = built-answer in cc
 
-  pub built-held : (lent : GridSlices) (g held : ℕ) → build m settings lent .answered ≡ Built g held → held ≡ heldConversions (m .positions) (sideOf (settings .factor) (count m))
+  pub built-held : (lent : GridSlices) (g held : ℕ) → buildGrid m settings lent .answered ≡ Built g held → held ≡ heldConversions (m .positions) (sideOf (settings .factor) (count m))
   built-held lent g held h = built-count lent g held (built-rows lent g held h) h
 
-  built-slices : (lent : GridSlices) → buildRows m settings lent ≡ Passed → build m settings lent .slices ≡ filled (gridOf m settings) lent
-  unfolding build
+  built-slices : (lent : GridSlices) → buildRows m settings lent ≡ Passed → buildGrid m settings lent .slices ≡ filledGrid (gridOf m settings) lent
+  unfolding buildGrid
   built-slices lent ok = rw ok refl
 
   -- the pair is recorded
@@ -76,8 +76,8 @@ module _ (m : Mesh) (settings : Settings) where
   unfolding gridOf
   settings-kept = refl
 
-  cut-filled : (lent : GridSlices) → cut settings (count m) (gridOf m settings .side) (filled (gridOf m settings) lent) ≡ gridOf m settings
-  unfolding cut filled
+  cut-filled : (lent : GridSlices) → cut settings (count m) (gridOf m settings .side) (filledGrid (gridOf m settings) lent) ≡ gridOf m settings
+  unfolding cut filledGrid
   cut-filled lent =
       let G = gridOf m settings in
       let cells = cellCount (G .side) in
@@ -90,7 +90,7 @@ module _ (m : Mesh) (settings : Settings) where
       rw (cell-starts, cell-ids, triangle-starts, triples)
       (λ t. record { settings = sym settings-kept t; side = G .side; cellStarts = G .cellStarts; cellIds = G .cellIds; triangleStarts = G .triangleStarts; triples = G .triples })
 
-  pub cut-build : (lent : GridSlices) (g held : ℕ) → build m settings lent .answered ≡ Built g held → cut settings (count m) g (build m settings lent .slices) ≡ gridOf m settings
+  pub cut-build : (lent : GridSlices) (g held : ℕ) → buildGrid m settings lent .answered ≡ Built g held → cut settings (count m) g (buildGrid m settings lent .slices) ≡ gridOf m settings
   cut-build lent g held h =
       let ok = built-rows lent g held h in
       rw (built-side lent g held ok h, built-slices lent ok) (cut-filled lent)

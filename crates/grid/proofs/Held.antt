@@ -17,25 +17,26 @@ use Rattle.binary64.proofs.ConvertedSteps.{how-of}
 use Rattle.vector.specs.declared.Vector3.{Vector3}
 use Rattle.mesh.specs.Mesh.{Mesh, count, vertexCount, positionOf}
 use Rattle.mesh.proofs.Renumbered.{Renumbered}
-use Rattle.grid.specs.declared.Projected.{Projected}
-use Rattle.grid.specs.CubeFace.{faceProjection, zeroFloat}
+use Rattle.grid.specs.declared.cube_face.Projected.{Projected}
+use Rattle.binary64.specs.Constants.{positiveZero}
+use Rattle.grid.specs.CubeFace.{faceProjection}
 use Rattle.grid.specs.Cells.{acrossCells}
 use Rattle.grid.specs.Held.{heldOne, heldOn, heldAt, heldConversions}
 use Rattle.grid.proofs.CubeFace.{three-faces}
 
 -- ---- one vertex on one face
 -- that it is in front of, by what its two conversions gave
-pub held-front : (g face : ℕ) (v : Vector3) (p : Projected) (row column : Converted) (h k : ℕ) → p ≡ faceProjection face v → lt zeroFloat (p .d) ≡ true
+pub held-front : (g face : ℕ) (v : Vector3) (p : Projected) (row column : Converted) (h k : ℕ) → p ≡ faceProjection face v → lt positiveZero (p .d) ≡ true
     → row ≡ convertedOf (acrossCells g (p .u) (p .d)) → column ≡ convertedOf (acrossCells g (p .w) (p .d)) → h ≡ heldOne (row .how) → k ≡ heldOne (column .how)
     → h + k ≡ heldOn g v face
 unfolding heldOn
 held-front g face v p row column h k e front r c eh ek =
     (λ i. (eh ∙ ap heldOne (how-of (acrossCells g (p .u) (p .d)) row r)) i + (ek ∙ ap heldOne (how-of (acrossCells g (p .w) (p .d)) column c)) i)
     ∙ (λ i. cond (sym front i) (heldOne (conversionOf (acrossCells g (p .u) (p .d))) + heldOne (conversionOf (acrossCells g (p .w) (p .d)))) 0)
-    ∙ (λ i. let q = e i in cond (lt zeroFloat (q .d)) (heldOne (conversionOf (acrossCells g (q .u) (q .d))) + heldOne (conversionOf (acrossCells g (q .w) (q .d)))) 0)
+    ∙ (λ i. let q = e i in cond (lt positiveZero (q .d)) (heldOne (conversionOf (acrossCells g (q .u) (q .d))) + heldOne (conversionOf (acrossCells g (q .w) (q .d)))) 0)
 
 -- that it is not in front of
-pub held-behind : (g face : ℕ) (v : Vector3) → lt zeroFloat (faceProjection face v .d) ≡ false → heldOn g v face ≡ 0
+pub held-behind : (g face : ℕ) (v : Vector3) → lt positiveZero (faceProjection face v .d) ≡ false → heldOn g v face ≡ 0
 unfolding heldOn
 held-behind g face v behind = rw behind refl
 
@@ -47,7 +48,7 @@ one-few NotANumber = omega arith
 
 pub held-few : (g : ℕ) (v : Vector3) (face : ℕ) → heldOn g v face ≤ 2
 unfolding heldOn
-held-few g v face = go (lt zeroFloat (p .d))
+held-few g v face = go (lt positiveZero (p .d))
   where
     p : Projected
     p = faceProjection face v

@@ -10,16 +10,17 @@ use lib.ListN.{length}
 use lib.IntN.{ℤ, pos, negsuc}
 use lib.Ieee.{Float, lt}
 use borrow.Author.Tests.{leb-true, le-leb}
+use Rattle.booleans.proofs.Booleans.{and-split, and-intro}
 use Rattle.sequences.specs.Range.{sumBelow}
 use Rattle.sequences.specs.Starts.{startOf}
-use Rattle.sequences.proofs.Range.{and-split, and-intro}
 use Rattle.binary64.specs.Convert.{toI64}
 use Rattle.vector.specs.declared.Vector3.{Vector3}
 use Rattle.mesh.specs.Mesh.{Mesh, count, vertexCount, positionOf}
 use Rattle.mesh.specs.Rows.{greatestCount}
-use Rattle.grid.specs.declared.Settings.{Settings}
-use Rattle.grid.specs.declared.Placement.{Placement}
-use Rattle.grid.specs.CubeFace.{faceProjection, zeroFloat}
+use Rattle.grid.specs.declared.settings.Settings.{Settings}
+use Rattle.grid.specs.declared.placement.Placement.{Placement}
+use Rattle.binary64.specs.Constants.{positiveZero}
+use Rattle.grid.specs.CubeFace.{faceProjection}
 use Rattle.grid.specs.Settings.{settingsWith, greatestMargin}
 use Rattle.grid.specs.Cells.{sideOf, cellCount, acrossCells, near, breadth, cellsOfVertex, placedIn}
 use Rattle.grid.specs.Placing.{Placed}
@@ -47,9 +48,9 @@ placed-grows margin wider g cell v more h =
     let column = cell % g in
     let u = toI64 (acrossCells g (p .u) (p .d)) in
     let w = toI64 (acrossCells g (p .w) (p .d)) in
-    let front = and-split (lt zeroFloat (p .d)) (near margin u row && near margin w column) h in
+    let front = and-split (lt positiveZero (p .d)) (near margin u row && near margin w column) h in
     let both = and-split (near margin u row) (near margin w column) (front .1) in
-    and-intro (lt zeroFloat (p .d)) (near wider u row && near wider w column) (front .0)
+    and-intro (lt positiveZero (p .d)) (near wider u row && near wider w column) (front .0)
     (and-intro (near wider u row) (near wider w column) (near-grows margin wider row u more (both .0)) (near-grows margin wider column w more (both .1)))
 
 pub margin-grows : (m : Mesh) (factor : Float) (margin wider cell v : ℕ) → margin ≤ wider → List·Memᴰ v (idsIn m (settingsWith factor margin) cell) → List·Memᴰ v (idsIn m (settingsWith factor wider) cell)
@@ -59,7 +60,7 @@ margin-grows m factor margin wider cell v more h =
 
 -- ---- three faces
 module _ (positions : List Float) (margin g v : ℕ) where
-  abbrev place : (face : ℕ) → (p : Placement) × Placed margin g face (positionOf positions v) p × (lt zeroFloat (faceProjection face (positionOf positions v) .d) ≡ false → p .«end_row» ≡ p .«first_row»)
+  abbrev place : (face : ℕ) → (p : Placement) × Placed margin g face (positionOf positions v) p × (lt positiveZero (faceProjection face (positionOf positions v) .d) ≡ false → p .«end_row» ≡ p .«first_row»)
   place face = some-placement margin g face (positionOf positions v)
 
   -- the cells of the vertex on a face
@@ -69,7 +70,7 @@ module _ (positions : List Float) (margin g v : ℕ) where
   area-most : (face : ℕ) → area face ≤ breadth margin * breadth margin
   area-most face = area-few positions margin g v face (place face .0) (place face .1)
 
-  area-none : (face : ℕ) → lt zeroFloat (faceProjection face (positionOf positions v) .d) ≡ false → area face ≡ 0
+  area-none : (face : ℕ) → lt positiveZero (faceProjection face (positionOf positions v) .d) ≡ false → area face ≡ 0
   area-none face behind =
       let p = place face .0 in
       let rows : p .«end_row» - p .«first_row» ≡ 0 = omega (arith, place face .2 behind) in

@@ -15,10 +15,11 @@ use borrow.Author.Tests.{le-leb, lt-leb, le-ltb, ltb-true, ltb-false}
 use Rattle.binary64.proofs.Tests.{leb-alike}
 use Rattle.binary64.specs.Convert.{toI64}
 use Rattle.vector.specs.declared.Vector3.{Vector3}
-use Rattle.grid.specs.declared.Projected.{Projected}
-use Rattle.grid.specs.declared.CellRange.{CellRange}
-use Rattle.grid.specs.declared.Placement.{Placement}
-use Rattle.grid.specs.CubeFace.{faceProjection, zeroFloat}
+use Rattle.grid.specs.declared.cube_face.Projected.{Projected}
+use Rattle.grid.specs.declared.placement.CellRange.{CellRange}
+use Rattle.grid.specs.declared.placement.Placement.{Placement}
+use Rattle.binary64.specs.Constants.{positiveZero}
+use Rattle.grid.specs.CubeFace.{faceProjection}
 use Rattle.grid.specs.Settings.{greatestMargin}
 use Rattle.grid.specs.Cells.{near, acrossCells, placedIn}
 use Rattle.grid.specs.Held.{heldOn}
@@ -139,7 +140,7 @@ module _ (margin g face i j : ℕ) (li : i < g) (lj : j < g) where
       ap (λ (k : ℕ). k % g) e ∙ digits-mod (face * g + i) lj
 
   placed-by-face : (v : Vector3) → placedIn margin g (face * (g * g) + (i * g + j)) v
-      ≡ (lt zeroFloat (faceProjection face v .d)
+      ≡ (lt positiveZero (faceProjection face v .d)
       && (near margin (toI64 (acrossCells g (faceProjection face v .u) (faceProjection face v .d))) i
       && near margin (toI64 (acrossCells g (faceProjection face v .w) (faceProjection face v .d))) j))
   unfolding placedIn
@@ -149,7 +150,7 @@ abbrev placement : CellRange → CellRange → ℕ → Placement
 placement rows columns held = record { «first_row» = rows .first; «end_row» = rows .end; «first_column» = columns .first; «end_column» = columns .end; held = held }
 
 -- a face that the vertex is in front of
-pub placed-near : (margin g face : ℕ) (v : Vector3) (p : Projected) (rows columns : CellRange) (held : ℕ) → p ≡ faceProjection face v → lt zeroFloat (p .d) ≡ true
+pub placed-near : (margin g face : ℕ) (v : Vector3) (p : Projected) (rows columns : CellRange) (held : ℕ) → p ≡ faceProjection face v → lt positiveZero (p .d) ≡ true
     → Near margin g (toI64 (acrossCells g (p .u) (p .d))) rows → Near margin g (toI64 (acrossCells g (p .w) (p .d))) columns → held ≡ heldOn g v face → Placed margin g face v (placement rows columns held)
 placed-near margin g face v p rows columns held e front r c h = record {
   rows-ordered = r .ordered;
@@ -159,13 +160,13 @@ placed-near margin g face v p rows columns held e front r c h = record {
   columns-inside = c .inside;
   columns-few = c .few;
   exact = λ i j li lj. placed-by-face margin g face i j li lj v
-      ∙ (λ t. let q = sym e t in lt zeroFloat (q .d) && (near margin (toI64 (acrossCells g (q .u) (q .d))) i && near margin (toI64 (acrossCells g (q .w) (q .d))) j))
+      ∙ (λ t. let q = sym e t in lt positiveZero (q .d) && (near margin (toI64 (acrossCells g (q .u) (q .d))) i && near margin (toI64 (acrossCells g (q .w) (q .d))) j))
       ∙ (λ t. front t && (r .exact i li t && c .exact j lj t));
   held-exact = h;
 }
 
 -- one that it is not in front of
-pub placed-nowhere : (margin g face : ℕ) (v : Vector3) (p : Projected) → p ≡ faceProjection face v → lt zeroFloat (p .d) ≡ false → Placed margin g face v (placement (range 0 0) (range 0 0) 0)
+pub placed-nowhere : (margin g face : ℕ) (v : Vector3) (p : Projected) → p ≡ faceProjection face v → lt positiveZero (p .d) ≡ false → Placed margin g face v (placement (range 0 0) (range 0 0) 0)
 placed-nowhere margin g face v p e behind = record {
   rows-ordered = omega arith;
   rows-inside = omega arith;
@@ -174,20 +175,20 @@ placed-nowhere margin g face v p e behind = record {
   columns-inside = omega arith;
   columns-few = omega arith;
   exact = λ i j li lj. placed-by-face margin g face i j li lj v
-      ∙ (λ t. let q = sym e t in lt zeroFloat (q .d) && (near margin (toI64 (acrossCells g (q .u) (q .d))) i && near margin (toI64 (acrossCells g (q .w) (q .d))) j))
+      ∙ (λ t. let q = sym e t in lt positiveZero (q .d) && (near margin (toI64 (acrossCells g (q .u) (q .d))) i && near margin (toI64 (acrossCells g (q .w) (q .d))) j))
       ∙ (λ t. behind t && (near margin (toI64 (acrossCells g (p .u) (p .d))) i && near margin (toI64 (acrossCells g (p .w) (p .d))) j))
       ∙ sym (λ t. (le-leb 0 i (omega arith) t && le-ltb i 0 (omega arith) t) && within 0 0 j);
-  held-exact = sym (held-behind g face v (ap (λ (q : Projected). lt zeroFloat (q .d)) (sym e) ∙ behind));
+  held-exact = sym (held-behind g face v (ap (λ (q : Projected). lt positiveZero (q .d)) (sym e) ∙ behind));
 }
 
 -- every vertex is placed on every face, without rows on one that it is not in front of
-pub some-placement : (margin g face : ℕ) (v : Vector3) → (p : Placement) × Placed margin g face v p × (lt zeroFloat (faceProjection face v .d) ≡ false → p .«end_row» ≡ p .«first_row»)
-some-placement margin g face v = go (lt zeroFloat (faceProjection face v .d)) refl
+pub some-placement : (margin g face : ℕ) (v : Vector3) → (p : Placement) × Placed margin g face v p × (lt positiveZero (faceProjection face v .d) ≡ false → p .«end_row» ≡ p .«first_row»)
+some-placement margin g face v = go (lt positiveZero (faceProjection face v .d)) refl
   where
     seen : Projected
     seen = faceProjection face v
 
-    go : (b : Bool) → lt zeroFloat (seen .d) ≡ b → (p : Placement) × Placed margin g face v p × (lt zeroFloat (seen .d) ≡ false → p .«end_row» ≡ p .«first_row»)
+    go : (b : Bool) → lt positiveZero (seen .d) ≡ b → (p : Placement) × Placed margin g face v p × (lt positiveZero (seen .d) ≡ false → p .«end_row» ≡ p .«first_row»)
     go true e =
         let rows = near-range margin g (toI64 (acrossCells g (seen .u) (seen .d))) in
         let columns = near-range margin g (toI64 (acrossCells g (seen .w) (seen .d))) in

@@ -19,9 +19,9 @@ use Rattle.mesh.specs.Mesh.{Mesh, count, neighbours}
 use Rattle.mesh.specs.Adjacency.{Mutual, NoRepeat}
 use Rattle.mesh.proofs.Facts.{AdjacencyFacts, MeshFacts, mesh-passed}
 use Rattle.mesh.proofs.Renumbered.{Renumbered, renumbered-flip, mutual-renumbered, no-repeat-renumbered}
-use Rattle.grid.specs.declared.Settings.{Settings}
+use Rattle.grid.specs.declared.settings.Settings.{Settings}
 use Rattle.grid.specs.Triangles.{trianglesOfEdge, trianglesFrom, triangles, trianglesAt}
-use Rattle.grid.specs.Grid.{GridSlices, gridOf, slicesFit, buildRows}
+use Rattle.grid.specs.Grid.{GridSlices, gridOf, gridSlicesFit, buildRows}
 use Rattle.grid.proofs.Cells.{same-cell-starts, same-ids-length}
 use Rattle.grid.proofs.Triangles.{triangle-of-member, triangle-at-renumbered, at-vertex, triples-length}
 use Rattle.grid.proofs.Grid.{triangle-starts-length}
@@ -111,8 +111,8 @@ module _ (m m₁ : Mesh) (settings : Settings) {p b : ℕ → ℕ} (facts : Adja
       total m₁ ∙ ap (λ (k : ℕ). k * 3) (ap (startOf (trianglesAt m₁)) (r .same-count) ∙ same) ∙ sym (total m)
 
   -- slices that are long enough for one grid are so for the other
-  pub same-room : (lent : GridSlices) → slicesFit (gridOf m₁ settings) lent ≡ slicesFit (gridOf m settings) lent
-  unfolding slicesFit
+  pub same-room : (lent : GridSlices) → gridSlicesFit (gridOf m₁ settings) lent ≡ gridSlicesFit (gridOf m settings) lent
+  unfolding gridSlicesFit
   same-room lent =
       let triangle-starts : length (gridOf m₁ settings .triangleStarts) ≡ length (gridOf m settings .triangleStarts) = triangle-starts-length m₁ settings ∙ ap suc (r .same-count) ∙ sym (triangle-starts-length m settings) in
       rw (same-cell-starts m m₁ settings r, same-ids-length m m₁ settings r, triangle-starts, same-triples-length) refl

@@ -6,13 +6,13 @@ use lib.Dec.{T}
 use lib.Ieee.{Float, nan, inf, fin, binary64, ofBits, toBits, fits, isNan, lt, le, eq}
 use lib.Ieee.Bits.{ofBits-toBits}
 use borrow.Author.Tests.{leb-true}
-use Rattle.sequences.proofs.Range.{and-split}
+use Rattle.booleans.proofs.Booleans.{and-split}
 use Rattle.refusal.specs.declared.Refusal.{Refusal}
 use Rattle.refusal.specs.declared.Verdict.{Verdict}
 use Rattle.refusal.specs.declared.Verdict.the-variants.{Passed, Refused}
 use Rattle.refusal.specs.Refusal.{refusal, row, then}
 use Rattle.refusal.proofs.Rows.{row-passed, row-then}
-use Rattle.grid.specs.declared.Settings.{Settings}
+use Rattle.grid.specs.declared.settings.Settings.{Settings}
 use Rattle.grid.specs.Settings.{usualFactor, leastFactor, greatestFactor, greatestMargin, factorFits, marginFits, settingsRows}
 
 module _ (settings : Settings) where
@@ -53,5 +53,5 @@ unfolding ofBits
 usual-by-bits x held e = sym (ofBits-toBits binary64 x held) ∙ ap (ofBits binary64) e
 
 pub usual-fits : factorFits usualFactor ≡ true
-unfolding factorFits le
+unfolding factorFits le ofBits
 usual-fits = refl

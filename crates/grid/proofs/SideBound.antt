@@ -6,23 +6,23 @@ use mathlib.Core.Path.{_≡_, refl, sym, subst, _∙_}
 use mathlib.Core.Bool.{Bool, true, false}
 use lib.Dec.{T, lt→ltb}
 use lib.IntN.{pos, negsuc}
-use lib.Ieee.{Float, nan, inf, fin, binary64, low, up, down, lt, le, round, mul, div, ofInt}
+use lib.Ieee.{Float, nan, inf, fin, binary64, low, up, down, lt, le, round, mul, div, ofInt, ofBits}
 use lib.Ieee.Bits.{is-true}
 use lib.Ieee.Exact.{HasValue}
 use lib.Ieee.Fits.{down-pos, mul-fits}
 use lib.Ieee.Positive.{positive, positive-finite, values-of-le, between, mul-mono}
+use Rattle.booleans.proofs.Booleans.{and-split}
 use Rattle.binary64.specs.Integral.{ceilOf}
 use Rattle.binary64.proofs.Integral.{ceil-not-below, ceil-least}
 use Rattle.binary64.proofs.LessThan.{le-transitive}
 use Rattle.binary64.proofs.NotNan.{finite-not-nan}
 use Rattle.binary64.proofs.SignedOrder.{positive-not-below}
 use Rattle.binary64.proofs.WholeNumbers.{whole-positive, whole-monotone, to-unsigned-whole, to-unsigned-monotone, above-minus-one}
-use Rattle.sequences.proofs.Range.{and-split}
 use Rattle.rounding.proofs.Monotone.{div-monotone}
 use Rattle.root.specs.Root.{squareRoot}
 use Rattle.root.proofs.Monotone.{squareRoot-monotone}
 use Rattle.mesh.specs.Rows.{greatestCount}
-use Rattle.grid.specs.CubeFace.{zeroFloat}
+use Rattle.binary64.specs.Constants.{positiveZero}
 use Rattle.binary64.specs.Convert.{whole}
 use Rattle.grid.specs.Settings.{usualFactor, leastFactor, greatestFactor, factorFits}
 use Rattle.grid.specs.Cells.{sideAcross, sideOf}
@@ -77,10 +77,12 @@ module _ (x : Float) (above : T (le (fin false 1 (negsuc 2)) x)) (below : T (le 
   abbrev root : Float
   root = squareRoot binary64 x
 
-  not-below-zero : T (le zeroFloat x)
-  not-below-zero = le-transitive zeroFloat (fin false 1 (negsuc 2)) x (positive-not-below (fin false 1 (negsuc 2)) tt) above
+  not-below-zero : T (le positiveZero x)
+  unfolding ofBits
+  not-below-zero = le-transitive positiveZero (fin false 1 (negsuc 2)) x (positive-not-below (fin false 1 (negsuc 2)) tt) above
 
   pub root-at-most : T (le root (fin false 105 (pos 0)))
+  unfolding ofBits
   root-at-most =
       le-transitive root (squareRoot binary64 (fin false 10923 (pos 0))) (fin false 105 (pos 0)) (squareRoot-monotone binary64 x (fin false 10923 (pos 0)) not-below-zero below) (root-ends .1)
 
@@ -131,7 +133,7 @@ usual-reach = record {
 
 -- every factor that row 19 lets pass
 pub allowed-reach : (factor : Float) → factorFits factor ≡ true → FactorReach factor 420
-unfolding mul round factorFits
+unfolding mul round factorFits ofBits
 allowed-reach factor h =
     let both = and-split (le leastFactor factor) (le factor greatestFactor) h in
     record {

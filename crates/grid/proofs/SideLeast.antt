@@ -11,6 +11,7 @@ use lib.Ieee.{Float, binary64, le, mul, div, ofInt, toUnsigned, fits}
 use lib.Ieee.Fits.{mul-fits}
 use lib.Ieee.Positive.{num, den, den-pos, positive, positive-finite, own-value}
 use borrow.Author.Tests.{eqb-true, eq-eqb, ne-eqb, lt-ltb, le-ltb}
+use Rattle.booleans.proofs.Booleans.{and-split}
 use Rattle.binary64.specs.Integral.{ceilOf, roundToIntegral}
 use Rattle.binary64.proofs.Integral.{integral-exact, ceil-not-below, ceil-least}
 use Rattle.binary64.proofs.LessThan.{le-transitive}
@@ -20,7 +21,7 @@ use Rattle.binary64.proofs.Tests.{Tested, tested}
 use Rattle.binary64.proofs.WholeNumbers.{to-unsigned-monotone}
 use Rattle.rounding.proofs.Monotone.{mul-monotone}
 use Rattle.sequences.specs.Range.{allBelow}
-use Rattle.sequences.proofs.Range.{and-split, all-below-at}
+use Rattle.sequences.proofs.Range.{all-below-at}
 use Rattle.root.specs.Root.{squareRoot}
 use Rattle.root.proofs.Monotone.{squareRoot-monotone}
 use Rattle.mesh.specs.Rows.{greatestCount}

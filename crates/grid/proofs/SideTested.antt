@@ -35,8 +35,8 @@ out-of-range g s most low high h = sym (ne-eqb g s (λ e. go (ltb g 2) refl h e)
     go true l h e = omega (arith, ltb-true g 2 l)
     go false l h e = omega (arith, ltb-true most g h)
 
-pub in-range : (g most : ℕ) → (ltb g 2 || ltb most g) ≡ false → (2 ≤ g) × (g ≤ most)
-in-range g most h = go (ltb g 2) refl h
+pub side-in-range : (g most : ℕ) → (ltb g 2 || ltb most g) ≡ false → (2 ≤ g) × (g ≤ most)
+side-in-range g most h = go (ltb g 2) refl h
   where
     go : (b : Bool) → ltb g 2 ≡ b → (b || ltb most g) ≡ false → (2 ≤ g) × (g ≤ most)
     go true l h = absurd (true≢false h)

@@ -9,7 +9,7 @@ use lib.Dec.{leb, eqb}
 use lib.ListN.{length}
 use lib.Ieee.{Float}
 use borrow.Author.Tests.{leb-true, eqb-true}
-use Rattle.sequences.proofs.Range.{and-split}
+use Rattle.booleans.proofs.Booleans.{and-split}
 use Rattle.refusal.specs.declared.Refusal.{Refusal}
 use Rattle.refusal.specs.declared.Verdict.{Verdict}
 use Rattle.refusal.specs.declared.Verdict.the-variants.{Passed, Refused}
@@ -21,7 +21,7 @@ use Rattle.grid.specs.Settings.{factorFits, marginFits, settingsRows}
 use Rattle.grid.specs.Cells.{sideOf, cellCount}
 use Rattle.grid.specs.Grid.{Grid}
 use Rattle.grid.specs.Passes.{greatestSide}
-use Rattle.grid.specs.Stored.{sideFits, startsCounted, storedRows}
+use Rattle.grid.specs.Stored.{sideFits, bothStartsCounted, storedRows}
 use Rattle.grid.proofs.SettingsRows.{settings-then}
 use Rattle.grid.proofs.SideBound.{side-bound}
 
@@ -34,8 +34,8 @@ positions-count positions h =
 
 -- the lengths of the starts as code tests them
 pub starts-tested : (grid : Grid) (positions : List Float)
-    → (eqb (length (grid .cellStarts)) (6 * (grid .side * grid .side) + 1) && eqb (length (grid .triangleStarts)) (vertexCount positions + 1)) ≡ startsCounted grid positions
-unfolding startsCounted
+    → (eqb (length (grid .cellStarts)) (6 * (grid .side * grid .side) + 1) && eqb (length (grid .triangleStarts)) (vertexCount positions + 1)) ≡ bothStartsCounted grid positions
+unfolding bothStartsCounted
 starts-tested grid positions = rw (add-one (cellCount (grid .side)), add-one (vertexCount positions))
 
 -- ---- the chain before further rows
@@ -45,8 +45,8 @@ module _ (grid : Grid) (positions : List Float) where
       let settings = settingsRows (grid .settings) in
       let counted = row (positionsFit positions) (refusal 2) in
       let side = row (sideFits grid positions) (refusal 2) in
-      let starts = row (startsCounted grid positions) (refusal 3) in
-      ap (λ (w : Verdict). counted (settings (side w))) (row-then (startsCounted grid positions) (refusal 3) v next)
+      let starts = row (bothStartsCounted grid positions) (refusal 3) in
+      ap (λ (w : Verdict). counted (settings (side w))) (row-then (bothStartsCounted grid positions) (refusal 3) v next)
       ∙ ap (λ (w : Verdict). counted (settings w)) (row-then (sideFits grid positions) (refusal 2) (starts v) next)
       ∙ ap counted (settings-then (grid .settings) (side (starts v)) next)
       ∙ row-then (positionsFit positions) (refusal 2) (settings (side (starts v))) next
@@ -72,13 +72,13 @@ pub record StoredFacts (grid : Grid) (positions : List Float) : Type 0 where
   pub vertices-counted : length (grid .triangleStarts) ≡ suc (vertexCount positions)
 
 pub stored-facts : (grid : Grid) (positions : List Float) → storedRows grid positions Passed ≡ Passed → StoredFacts grid positions
-unfolding sideFits startsCounted
+unfolding sideFits bothStartsCounted
 stored-facts grid positions h =
     let fits = row-passed (positionsFit positions) (refusal 2) _ h in
     let factor = row-passed (factorFits (grid .settings .factor)) (refusal 19) _ (fits .1) in
     let margin = row-passed (marginFits (grid .settings .margin)) (refusal 20) _ (factor .1) in
     let side = row-passed (sideFits grid positions) (refusal 2) _ (margin .1) in
-    let counted = row-passed (startsCounted grid positions) (refusal 3) Passed (side .1) in
+    let counted = row-passed (bothStartsCounted grid positions) (refusal 3) Passed (side .1) in
     let lengths = and-split (eqb (length (grid .cellStarts)) (suc (cellCount (grid .side)))) (eqb (length (grid .triangleStarts)) (suc (vertexCount positions))) (counted .0) in
     let count = positions-count positions (fits .0) in
     let same : grid .side ≡ sideOf (grid .settings .factor) (vertexCount positions) = eqb-true _ _ (side .0) in

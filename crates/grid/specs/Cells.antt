@@ -6,10 +6,12 @@ use lib.IntN.{ℤ, pos, negsuc}
 use lib.Ieee.{Float, binary64, mul, div, lt, toUnsigned}
 use Rattle.binary64.specs.Integral.{ceilOf}
 use Rattle.binary64.specs.Convert.{toI64, whole}
-use Rattle.fused.specs.Fused.{fusedMultiplyAdd, half}
+use Rattle.fused.specs.Fused.{fusedMultiplyAdd}
+use Rattle.binary64.specs.Constants.{half}
 use Rattle.root.specs.Root.{squareRoot}
 use Rattle.vector.specs.declared.Vector3.{Vector3}
-use Rattle.grid.specs.CubeFace.{faceProjection, zeroFloat}
+use Rattle.binary64.specs.Constants.{positiveZero}
+use Rattle.grid.specs.CubeFace.{faceProjection}
 
 -- "Side g = the ceiling of root(count/6)·1.2, at least 2", where W-210 lets "the builder take its factor" for 1.2. Quotient, root and product are each rounded once, to nearest, ties to even (IEEE 754-2019, 4.3.1); the ceiling is exact (IEEE 754-2019, 5.9).
 abbrev pub sideAcross : Float → ℕ → Float
@@ -39,7 +41,7 @@ breadth margin = 2 * margin + 1
 unfoldable pub placedIn : ℕ → ℕ → ℕ → Vector3 → Bool
 placedIn margin g cell v =
     let p = faceProjection (cell / (g * g)) v in
-    lt zeroFloat (p .d) && (near margin (toI64 (acrossCells g (p .u) (p .d))) (cell % (g * g) / g) && near margin (toI64 (acrossCells g (p .w) (p .d))) (cell % g))
+    lt positiveZero (p .d) && (near margin (toI64 (acrossCells g (p .u) (p .d))) (cell % (g * g) / g) && near margin (toI64 (acrossCells g (p .w) (p .d))) (cell % g))
 
 -- The cells of a vertex, at most: those of three faces, as of two opposite ones at most one has d > 0.
 abbrev pub cellsOfVertex : ℕ → ℕ

@@ -1,11 +1,11 @@
 -- The six faces of the cube around the sphere, as `cube_project` and `cube_face_project` number them. Definitions only.
 use Prim.Native.Nat.{ℕ, zero, suc}
-use mathlib.Core.Bool.{false, _&&_, cond}
-use lib.IntN.{pos}
-use lib.Ieee.{Float, fin, neg, lt, le}
+use mathlib.Core.Bool.{_&&_, cond}
+use lib.Ieee.{Float, neg, lt, le}
 use Rattle.binary64.specs.Absolute.{abs}
+use Rattle.binary64.specs.Constants.{positiveZero}
 use Rattle.vector.specs.declared.Vector3.{Vector3}
-use Rattle.grid.specs.declared.Projected.{Projected}
+use Rattle.grid.specs.declared.cube_face.Projected.{Projected}
 
 abbrev pub projected : Float → Float → Float → Projected
 projected u w d = record { u = u; w = w; d = d }
@@ -19,12 +19,9 @@ faceProjection (suc (suc (suc zero))) v = projected (neg (v .x)) (v .z) (neg (v 
 faceProjection (suc (suc (suc (suc zero)))) v = projected (v .x) (v .y) (v .z)
 faceProjection (suc (suc (suc (suc (suc face))))) v = projected (neg (v .x)) (v .y) (neg (v .z))
 
-abbrev pub zeroFloat : Float
-zeroFloat = fin false 0 (pos 0)
-
 -- One of the two faces of an axis, by the sign of the component along it.
 abbrev pub sideOfAxis : Float → ℕ → ℕ → ℕ
-sideOfAxis component positive negative = cond (lt zeroFloat component) positive negative
+sideOfAxis component positive negative = cond (lt positiveZero component) positive negative
 
 -- "The cube face is chosen from 0 to 5 by the dominant axis": x where neither other component is larger in magnitude, else y where z is not larger, else z.
 unfoldable pub dominantFace : Vector3 → ℕ

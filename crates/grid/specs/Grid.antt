@@ -12,7 +12,7 @@ use Rattle.refusal.specs.declared.Verdict.the-variants.{Passed}
 use Rattle.refusal.specs.Refusal.{refusal, row, then, answer}
 use Rattle.mesh.specs.Mesh.{Mesh, count, positionOf}
 use Rattle.mesh.specs.Rows.{meshRows}
-use Rattle.grid.specs.declared.Settings.{Settings}
+use Rattle.grid.specs.declared.settings.Settings.{Settings}
 use Rattle.grid.specs.declared.Build.{Build}
 use Rattle.grid.specs.declared.Build.the-variants.{Refused, Built}
 use Rattle.grid.specs.Settings.{settingsRows}
@@ -52,18 +52,18 @@ pub record GridSlices : Type 0 where
   pub triples : List ℕ
 
 -- Row 8 refuses "any slice too short".
-unfoldable pub slicesFit : Grid → GridSlices → Bool
-slicesFit grid lent =
+unfoldable pub gridSlicesFit : Grid → GridSlices → Bool
+gridSlicesFit grid lent =
     leb (length (grid .cellStarts)) (length (lent .cellStarts)) && (leb (length (grid .cellIds)) (length (lent .cellIds))
     && (leb (length (grid .triangleStarts)) (length (lent .triangleStarts)) && leb (length (grid .triples)) (length (lent .triples))))
 
 -- The mesh rows 2 to 5, then 19 and 20, "both just after the mesh rows", then 8.
 unfoldable pub buildRows : Mesh → Settings → GridSlices → Verdict
-buildRows m settings lent = then (meshRows m) (settingsRows settings (row (slicesFit (gridOf m settings) lent) (refusal 8) Passed))
+buildRows m settings lent = then (meshRows m) (settingsRows settings (row (gridSlicesFit (gridOf m settings) lent) (refusal 8) Passed))
 
 -- The slices after an accepted call: "surplus is untouched".
-unfoldable pub filled : Grid → GridSlices → GridSlices
-filled grid lent = record {
+unfoldable pub filledGrid : Grid → GridSlices → GridSlices
+filledGrid grid lent = record {
   cellStarts = overwrite (grid .cellStarts) (lent .cellStarts);
   cellIds = overwrite (grid .cellIds) (lent .cellIds);
   triangleStarts = overwrite (grid .triangleStarts) (lent .triangleStarts);
@@ -75,10 +75,10 @@ pub record BuildOutcome : Type 0 where
   pub answered : Build
   pub slices : GridSlices
 
-unfoldable pub build : Mesh → Settings → GridSlices → BuildOutcome
-build m settings lent =
+unfoldable pub buildGrid : Mesh → Settings → GridSlices → BuildOutcome
+buildGrid m settings lent =
     answer (buildRows m settings lent) (λ reason. record { answered = Refused reason; slices = lent })
-    (record { answered = Built (sideOf (settings .factor) (count m)) (heldConversions (m .positions) (sideOf (settings .factor) (count m))); slices = filled (gridOf m settings) lent })
+    (record { answered = Built (sideOf (settings .factor) (count m)) (heldConversions (m .positions) (sideOf (settings .factor) (count m))); slices = filledGrid (gridOf m settings) lent })
 
 -- What was built for n vertices with the side g, "its slices cut to a grid's lengths".
 unfoldable pub cut : Settings → ℕ → ℕ → GridSlices → Grid

@@ -9,7 +9,8 @@ use Rattle.binary64.specs.declared.Conversion.the-variants.{Kept, Cut, Held, No
 use Rattle.binary64.specs.Convert.{conversionOf}
 use Rattle.vector.specs.declared.Vector3.{Vector3}
 use Rattle.mesh.specs.Mesh.{vertexCount, positionOf}
-use Rattle.grid.specs.CubeFace.{faceProjection, zeroFloat}
+use Rattle.binary64.specs.Constants.{positiveZero}
+use Rattle.grid.specs.CubeFace.{faceProjection}
 use Rattle.grid.specs.Cells.{acrossCells}
 
 abbrev pub heldOne : Conversion → ℕ
@@ -22,7 +23,7 @@ heldOne NotANumber = 0
 unfoldable pub heldOn : ℕ → Vector3 → ℕ → ℕ
 heldOn g v face =
     let p = faceProjection face v in
-    cond (lt zeroFloat (p .d)) (heldOne (conversionOf (acrossCells g (p .u) (p .d))) + heldOne (conversionOf (acrossCells g (p .w) (p .d)))) 0
+    cond (lt positiveZero (p .d)) (heldOne (conversionOf (acrossCells g (p .u) (p .d))) + heldOne (conversionOf (acrossCells g (p .w) (p .d)))) 0
 
 -- Of a vertex's conversions on all six faces.
 unfoldable pub heldAt : List Float → ℕ → ℕ → ℕ

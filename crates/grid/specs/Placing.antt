@@ -5,8 +5,8 @@ use mathlib.Core.Bool.{Bool, _&&_}
 use lib.Dec.{leb, ltb}
 use lib.IntN.{ℤ, pos, negsuc}
 use Rattle.vector.specs.declared.Vector3.{Vector3}
-use Rattle.grid.specs.declared.CellRange.{CellRange}
-use Rattle.grid.specs.declared.Placement.{Placement}
+use Rattle.grid.specs.declared.placement.CellRange.{CellRange}
+use Rattle.grid.specs.declared.placement.Placement.{Placement}
 use Rattle.grid.specs.Cells.{near, breadth, placedIn}
 use Rattle.grid.specs.Held.{heldOn}
 

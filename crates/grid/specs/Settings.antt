@@ -4,9 +4,10 @@ use mathlib.Core.Bool.{Bool, false, _&&_}
 use lib.Dec.{leb}
 use lib.IntN.{pos, negsuc}
 use lib.Ieee.{Float, fin, le}
+use Rattle.binary64.specs.Constants.{half}
 use Rattle.refusal.specs.declared.Verdict.{Verdict}
 use Rattle.refusal.specs.Refusal.{refusal, row}
-use Rattle.grid.specs.declared.Settings.{Settings}
+use Rattle.grid.specs.declared.settings.Settings.{Settings}
 
 abbrev pub settingsWith : Float → ℕ → Settings
 settingsWith factor margin = record { factor = factor; margin = margin }
@@ -23,7 +24,7 @@ usualSettings = settingsWith usualFactor usualMargin
 
 -- "The factor is a double from 0.5 to 4.0, the margin a whole number from 0 to 3."
 abbrev pub leastFactor : Float
-leastFactor = fin false 1 (negsuc 0)
+leastFactor = half
 
 abbrev pub greatestFactor : Float
 greatestFactor = fin false 1 (pos 2)

@@ -9,7 +9,7 @@ use Rattle.refusal.specs.declared.Verdict.{Verdict}
 use Rattle.refusal.specs.Refusal.{refusal, row}
 use Rattle.mesh.specs.Mesh.{vertexCount}
 use Rattle.mesh.specs.Rows.{positionsFit}
-use Rattle.grid.specs.declared.Settings.{Settings}
+use Rattle.grid.specs.declared.settings.Settings.{Settings}
 use Rattle.grid.specs.Settings.{settingsRows}
 use Rattle.grid.specs.Cells.{sideOf, cellCount}
 use Rattle.grid.specs.Grid.{Grid}
@@ -30,12 +30,12 @@ unfoldable pub sideFits : Grid → List Float → Bool
 sideFits grid positions = eqb (grid .side) (sideOf (grid .settings .factor) (vertexCount positions))
 
 -- "the lengths of both start lists (3)"
-unfoldable pub startsCounted : Grid → List Float → Bool
-startsCounted grid positions =
+unfoldable pub bothStartsCounted : Grid → List Float → Bool
+bothStartsCounted grid positions =
     eqb (length (grid .cellStarts)) (suc (cellCount (grid .side))) && eqb (length (grid .triangleStarts)) (suc (vertexCount positions))
 
 abbrev pub sideRows : Grid → List Float → Verdict → Verdict
-sideRows grid positions next = row (sideFits grid positions) (refusal 2) (row (startsCounted grid positions) (refusal 3) next)
+sideRows grid positions next = row (sideFits grid positions) (refusal 2) (row (bothStartsCounted grid positions) (refusal 3) next)
 
 -- "A grid query checks count, positions and g against the count (2), the lengths of both start lists (3)", and "Queries and the packing test the recorded pair, with the same two numbers, before g" (W-210): rows 2, 19, 20, 2, 3, and then the next ones.
 abbrev pub storedRows : Grid → List Float → Verdict → Verdict

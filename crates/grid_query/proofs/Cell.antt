@@ -10,9 +10,10 @@ use lib.Dec.{ltb}
 use lib.ListN.{length, getD, length-map, List·getD-eq-default}
 use lib.Seq.{drop-nil}
 use borrow.Author.Tests.{ltb-true, lt-ltb, eq-eqb}
+use Rattle.booleans.proofs.Booleans.{and-intro}
 use Rattle.sequences.specs.Starts.{part}
 use Rattle.sequences.specs.Ascending.{Ascending, sort}
-use Rattle.sequences.proofs.Range.{and-intro, all-below-intro}
+use Rattle.sequences.proofs.Range.{all-below-intro}
 use Rattle.sequences.proofs.Tabulate.{getD-member}
 use Rattle.sequences.proofs.Ascending.{length-sort, sort-members}
 use Rattle.refusal.specs.declared.Verdict.the-variants.{Passed}
@@ -28,9 +29,9 @@ use Rattle.mesh.proofs.Facts.{AdjacencyFacts, positions-fit}
 use Rattle.mesh.proofs.Renumbered.{Renumbered}
 use Rattle.grid.specs.Cells.{sideOf, cellCount}
 use Rattle.grid.specs.Triangles.{trianglesAt}
-use Rattle.grid.specs.declared.Settings.{Settings}
+use Rattle.grid.specs.declared.settings.Settings.{Settings}
 use Rattle.grid.specs.Grid.{gridOf, idsIn}
-use Rattle.grid.specs.Stored.{sideFits, startsCounted}
+use Rattle.grid.specs.Stored.{sideFits, bothStartsCounted}
 use Rattle.grid.proofs.Cells.{ids-ascending, id-placed, cell-part, same-side, ids-renumbered, same-cell-starts, same-ids-length}
 use Rattle.grid.proofs.Triangles.{triangle-size, triples-part, triangles-renumbered}
 use Rattle.grid.proofs.Grid.{cell-starts-length, triangle-starts-length, settings-kept}
@@ -71,8 +72,8 @@ module _ (m : Mesh) (settings : Settings) where
   unfolding sideFits gridOf
   side-fits = eq-eqb (sideOf (settings .factor) (count m)) (sideOf (settings .factor) (count m)) refl
 
-  starts-counted : startsCounted (gridOf m settings) (m .positions) ≡ true
-  unfolding startsCounted
+  starts-counted : bothStartsCounted (gridOf m settings) (m .positions) ≡ true
+  unfolding bothStartsCounted
   starts-counted = and-intro _ _ (eq-eqb _ _ (cell-starts-length m settings)) (eq-eqb _ _ (triangle-starts-length m settings))
 
   ids-below : (cell : ℕ) → idsBelow (count m) (candidates (gridOf m settings) cell) ≡ true

@@ -8,7 +8,8 @@ use lib.Ieee.{lt, le}
 use Rattle.binary64.specs.Absolute.{abs}
 use Rattle.vector.specs.declared.Vector3.{Vector3}
 use Rattle.mesh.specs.Rows.{greatestCount}
-use Rattle.grid.specs.CubeFace.{zeroFloat, faceProjection, dominantFace}
+use Rattle.binary64.specs.Constants.{positiveZero}
+use Rattle.grid.specs.CubeFace.{faceProjection, dominantFace}
 use Rattle.grid.specs.Cells.{cellCount, acrossCells}
 use Rattle.grid_query.specs.Cell.{clampedCell, cellOf}
 use Rattle.grid_query.proofs.Clamp.{clamped-below}
@@ -26,7 +27,7 @@ pub face-at-most : (v : Vector3) → dominantFace v ≤ 5
 unfolding dominantFace
 face-at-most v =
     face-of-six (le (abs (v .y)) (abs (v .x)) && le (abs (v .z)) (abs (v .x))) (le (abs (v .z)) (abs (v .y)))
-    (lt zeroFloat (v .x)) (lt zeroFloat (v .y)) (lt zeroFloat (v .z))
+    (lt positiveZero (v .x)) (lt positiveZero (v .y)) (lt positiveZero (v .z))
 
 -- what is added up to a cell's number fits a word by far
 pub cell-parts : (g face ci : ℕ) → g ≤ greatestCount → face ≤ 5 → ci < g → (g * g ≤ 2 ^ 32) × (face * (g * g) ≤ 5 * 2 ^ 32) × (ci * g ≤ 2 ^ 32)

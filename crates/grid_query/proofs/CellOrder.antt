@@ -5,13 +5,13 @@ use native.Mathlib.Omega.{arith}
 use mathlib.Core.Path.{_≡_}
 use mathlib.Core.Bool.{true}
 use lib.Dec.{T}
-use lib.Ieee.{Float, binary64, le}
+use lib.Ieee.{Float, binary64, le, ofBits}
 use lib.Ieee.Positive.{positive}
 use lib.Ieee.Scale.{finite}
 use Rattle.binary64.specs.Convert.{whole}
 use Rattle.binary64.proofs.WholeNumbers.{whole-positive}
 use Rattle.rounding.proofs.Monotone.{div-monotone, mul-monotone}
-use Rattle.fused.specs.Fused.{half}
+use Rattle.binary64.specs.Constants.{half}
 use Rattle.fused.proofs.Monotone.{fused-monotone-first}
 use Rattle.mesh.specs.Rows.{greatestCount}
 use Rattle.grid.specs.Settings.{factorFits}
@@ -23,7 +23,7 @@ use Rattle.grid_query.proofs.Clamp.{clamped-monotone}
 
 -- counted in cells
 across-monotone : (g : ℕ) (u u′ d : Float) → 0 < g → g ≤ 2 ^ 53 → T (finite u) → T (finite u′) → T (positive d) → T (le u u′) → T (le (acrossCells g u d) (acrossCells g u′ d))
-unfolding acrossCells
+unfolding acrossCells ofBits
 across-monotone g u u′ d some few U U′ D h = mul-monotone binary64 _ _ (whole g) (whole-positive g some few) (fused-monotone-first binary64 _ _ half half tt tt (div-monotone binary64 u u′ d U U′ D h))
 
 cell-follows : (g : ℕ) (u u′ d : Float) → 0 < g → g ≤ 2 ^ 53 → T (finite u) → T (finite u′) → T (positive d) → T (le u u′) → clampedCell g (acrossCells g u d) ≤ clampedCell g (acrossCells g u′ d)

@@ -6,14 +6,14 @@ use mathlib.Core.Path.{_≡_, refl, sym, ap, _∙_, subst}
 use mathlib.Core.Bool.{Bool, true, false, cond, true≢false, false≢true}
 use lib.Dec.{T, lt→ltb}
 use lib.IntN.{pos}
-use lib.Ieee.{Float, nan, inf, fin, up, down, lt, le, toUnsigned, isNan}
+use lib.Ieee.{Float, nan, inf, fin, up, down, lt, le, toUnsigned, isNan, ofBits}
 use lib.Ieee.Fits.{down-pos}
 use lib.Ieee.Exact.{HasValue}
 use borrow.Author.Tests.{ltb-false, le-ltb}
 use Rattle.binary64.proofs.FloatOrder.{lt-not-le, le-of-not-lt}
 use Rattle.binary64.proofs.LessThan.{lt-le}
 use Rattle.binary64.proofs.WholeNumbers.{whole-value, whole-converted, to-unsigned-monotone}
-use Rattle.grid.specs.CubeFace.{zeroFloat}
+use Rattle.binary64.specs.Constants.{positiveZero}
 use Rattle.binary64.specs.Convert.{whole}
 use Rattle.grid_query.specs.Cell.{clampedCell}
 
@@ -29,7 +29,8 @@ value-at-most : (n : ℕ) (x : Float) → HasValue x false n 1 → AtMost n x
 value-at-most n (fin true m e) v = tt
 value-at-most n (fin false m e) v = omega (arith, v .1)
 
-zero-at-most : (n : ℕ) → AtMost n zeroFloat
+zero-at-most : (n : ℕ) → AtMost n positiveZero
+unfolding ofBits
 zero-at-most n = omega arith
 
 -- what lies not above a float of the value n
@@ -46,10 +47,10 @@ not-above-at-most n (fin false k f) (fin false m e) v h =
     let c : k * up f * down e ≡ n * down e * down f = ap (λ (x : ℕ). x * down e) b ∙ mul-right-comm n (down f) (down e) in
     le-of-mul-le-mul-right {k = down f} (omega arith) (down-pos f)
 
-pub clamp-at-most : (n : ℕ) (x : Float) → n ≤ 2 ^ 53 → AtMost n (cond (lt x zeroFloat) zeroFloat (cond (lt (whole n) x) (whole n) x))
-clamp-at-most n x h = go (lt x zeroFloat) (lt (whole n) x) refl
+pub clamp-at-most : (n : ℕ) (x : Float) → n ≤ 2 ^ 53 → AtMost n (cond (lt x positiveZero) positiveZero (cond (lt (whole n) x) (whole n) x))
+clamp-at-most n x h = go (lt x positiveZero) (lt (whole n) x) refl
   where
-    go : (s t : Bool) → lt (whole n) x ≡ t → AtMost n (cond s zeroFloat (cond t (whole n) x))
+    go : (s t : Bool) → lt (whole n) x ≡ t → AtMost n (cond s positiveZero (cond t (whole n) x))
     go true t e = zero-at-most n
     go false true e = value-at-most n (whole n) (whole-value n h)
     go false false e = not-above-at-most n (whole n) x (whole-value n h) e
@@ -66,8 +67,8 @@ at-most-converts w n (fin false m e) v =
     omega arith
 
 -- ---- what a conversion that drops the fraction asks for, beside `above-minus-one`
-pub below-word : (n : ℕ) (x : Float) → n < 2 ^ 64 → AtMost n x → le zeroFloat x ≡ true → T (lt x (fin false 1 (pos 64)))
-unfolding le
+pub below-word : (n : ℕ) (x : Float) → n < 2 ^ 64 → AtMost n x → le positiveZero x ≡ true → T (lt x (fin false 1 (pos 64)))
+unfolding le ofBits
 below-word n nan l v h = absurd (false≢true h)
 below-word n (inf true) l v h = tt
 below-word n (inf false) l v h = absurd v
@@ -77,25 +78,25 @@ below-word n (fin false m e) l v h =
     lt→ltb (m * up e * 1) (2 ^ 64 * down e) (omega (arith, down-pos e))
 
 -- a NaN, and what is below zero, converts to 0
-pub not-positive-converts : (w : ℕ) (x : Float) → le zeroFloat x ≡ false → toUnsigned w x ≡ 0
-unfolding le toUnsigned isNan
+pub not-positive-converts : (w : ℕ) (x : Float) → le positiveZero x ≡ false → toUnsigned w x ≡ 0
+unfolding le toUnsigned isNan ofBits
 not-positive-converts w nan h = refl
 not-positive-converts w (inf true) h = refl
 not-positive-converts w (inf false) h = absurd (true≢false h)
 not-positive-converts w (fin true m e) h = refl
 not-positive-converts w (fin false m e) h =
-    absurd (true≢false (sym (le-of-not-lt zeroFloat (fin false m e) refl refl (le-ltb (m * up e * 1) (0 * 1 * down e) (omega arith))) ∙ h))
+    absurd (true≢false (sym (le-of-not-lt positiveZero (fin false m e) refl refl (le-ltb (m * up e * 1) (0 * 1 * down e) (omega arith))) ∙ h))
 
 -- ---- "clamps to 0..g − 1 before it converts": the same as converted, and then cut to at most g − 1
 pub clamped-is-cut : (g : ℕ) (x : Float) → g ≤ 2 ^ 53 → clampedCell g x ≡ min (toUnsigned 64 x) (g - 1)
-unfolding clampedCell
-clamped-is-cut g x h = go (lt x zeroFloat) (lt top x) refl refl (clamp-at-most (g - 1) x (omega arith))
+unfolding clampedCell ofBits
+clamped-is-cut g x h = go (lt x positiveZero) (lt top x) refl refl (clamp-at-most (g - 1) x (omega arith))
   where
     top : Float
     top = whole (g - 1)
 
-    go : (s t : Bool) → lt x zeroFloat ≡ s → lt top x ≡ t → AtMost (g - 1) (cond s zeroFloat (cond t top x)) → toUnsigned 64 (cond s zeroFloat (cond t top x)) ≡ min (toUnsigned 64 x) (g - 1)
-    go true t below above a = omega (arith, at-most-converts 64 0 zeroFloat (zero-at-most 0), not-positive-converts 64 x (lt-not-le x zeroFloat below))
+    go : (s t : Bool) → lt x positiveZero ≡ s → lt top x ≡ t → AtMost (g - 1) (cond s positiveZero (cond t top x)) → toUnsigned 64 (cond s positiveZero (cond t top x)) ≡ min (toUnsigned 64 x) (g - 1)
+    go true t below above a = omega (arith, at-most-converts 64 0 positiveZero (zero-at-most 0), not-positive-converts 64 x (lt-not-le x positiveZero below))
     go false true below above a = omega (arith, whole-converted (g - 1) (omega arith), to-unsigned-monotone 64 top x (subst T (sym (lt-le top x above)) tt))
     go false false below above a = omega (arith, at-most-converts 64 (g - 1) x a)
 

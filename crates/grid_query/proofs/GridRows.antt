@@ -13,7 +13,7 @@ use Rattle.refusal.specs.Refusal.{refusal, row, then}
 use Rattle.refusal.proofs.Rows.{row-passed, row-then}
 use Rattle.vector.specs.declared.Vector3.{Vector3}
 use Rattle.vector.specs.Vector.{normalized}
-use Rattle.vector.specs.Direction.{admissible}
+use Rattle.vector.specs.Direction.{admissible, directionRow}
 use Rattle.grid.specs.Cells.{cellCount}
 use Rattle.grid.specs.Grid.{Grid}
 use Rattle.grid.specs.Stored.{storedRows}
@@ -28,7 +28,7 @@ pub record GridFacts (grid : Grid) (positions : List Float) (direction : Vector3
 
 pub grid-facts : (grid : Grid) (positions : List Float) (direction : Vector3) → gridRows grid positions direction Passed ≡ Passed → GridFacts grid positions direction
 grid-facts grid positions direction h =
-    let rows = stored-passed grid positions (row (admissible direction) (refusal 9) Passed) h in
+    let rows = stored-passed grid positions (directionRow direction Passed) h in
     record {
       stored = stored-facts grid positions (rows .0);
       admitted = row-passed (admissible direction) (refusal 9) Passed (rows .1) .0;
@@ -45,11 +45,11 @@ query-cell-inside grid positions direction facts =
 module _ (grid : Grid) (positions : List Float) (direction : Vector3) where
   grid-rows-then : (v next : Verdict) → gridRows grid positions direction (then v next) ≡ then (gridRows grid positions direction v) next
   grid-rows-then v next =
-      ap (storedRows grid positions) (row-then (admissible direction) (refusal 9) v next) ∙ stored-then grid positions (row (admissible direction) (refusal 9) v) next
+      ap (storedRows grid positions) (row-then (admissible direction) (refusal 9) v next) ∙ stored-then grid positions (directionRow direction v) next
 
   -- the stored grid passes, and so does the direction
   pub grid-rows-passed : storedRows grid positions Passed ≡ Passed → admissible direction ≡ true → gridRows grid positions direction Passed ≡ Passed
-  grid-rows-passed h admitted = stored-through grid positions (row (admissible direction) (refusal 9) Passed) h ∙ ap (λ (b : Bool). row b (refusal 9) Passed) admitted
+  grid-rows-passed h admitted = stored-through grid positions (directionRow direction Passed) h ∙ ap (λ (b : Bool). row b (refusal 9) Passed) admitted
 
   -- the rows of the grid and of the direction first, then those of the cell
   pub cell-rows-then : cellRows grid positions direction ≡ then (gridRows grid positions direction Passed) (candidateRows grid positions (cellOfQuery grid direction))

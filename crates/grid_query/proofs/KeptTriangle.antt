@@ -13,13 +13,13 @@ use Rattle.binary64.proofs.Zeros.{same-above, same-below}
 use Rattle.binary64.proofs.Minimum.{earlier-same, minima-same}
 use Rattle.vector.specs.declared.Vector3.{Vector3}
 use Rattle.vector.specs.Vector.{normalized}
-use Rattle.barycentric.specs.declared.Weights.{Weights}
-use Rattle.barycentric.specs.Weights.{leastWeight}
+use Rattle.vector.specs.declared.Weights.{Weights}
+use Rattle.barycentric.specs.LeastWeight.{leastWeight}
 use Rattle.grid_query.specs.declared.Located.{Located}
 use Rattle.grid_query.specs.declared.Located.the-variants.{Refused}
 use Rattle.grid_query.specs.Cell.{cellOfQuery, candidates, triplesAt, cellRows}
 use Rattle.grid_query.specs.Nearest.{nearestOf}
-use Rattle.grid_query.specs.Locate.{weighedBy, weighed, leastKept, keptBy, keptOf, triangleRows, locatedAt, locate}
+use Rattle.grid_query.specs.Locate.{weighedBy, weighed, leastKept, keptBy, keptOf, triangleRows, locatedAt, gridLocate}
 use Rattle.grid_query.specs.KeptTriangle.{SameTriangle, OpenAtZero, KeptWhicheverZero, locateBy, LocatedWhicheverZero, OpenMinimum, leastBy, earlierOfEquals}
 
 -- ---- along the list, the leasts too differ in the sign of a zero at most
@@ -58,7 +58,7 @@ kept-whichever-zero rule unsettled positions direction triples = kept-alike posi
 
 -- ---- a whole location: its rows come before any least is taken
 pub located-whichever-zero : LocatedWhicheverZero
-unfolding locate locatedAt locateBy
+unfolding gridLocate locatedAt locateBy
 located-whichever-zero rule unsettled grid positions direction =
     let d = normalized direction in
     let v = nearestOf positions d (candidates grid (cellOfQuery grid direction)) in

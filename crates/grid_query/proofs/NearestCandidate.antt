@@ -16,7 +16,7 @@ use Rattle.vector.specs.Vector.{normalized}
 use Rattle.grid.specs.Grid.{Grid}
 use Rattle.grid_query.specs.declared.Nearest.the-variants.{Refused, Found}
 use Rattle.grid_query.specs.Cell.{cellOfQuery, candidates, cellRows}
-use Rattle.grid_query.specs.Nearest.{squaredDistance, nearestOf, nearestIn, nearestVertex}
+use Rattle.grid_query.specs.Nearest.{squaredDistance, nearestOf, nearestIn, gridNearest}
 use Rattle.grid_query.proofs.Distance.{squared-distance-fits}
 
 -- ranks of squared distances tell the distances
@@ -46,13 +46,13 @@ module _ (positions : List Float) (direction : Vector3) where
 
 -- ---- the whole outcome
 module _ (grid : Grid) (positions : List Float) (direction : Vector3) where
-  pub nearest-refused : (reason : Refusal) → cellRows grid positions direction ≡ Verdicts.Refused reason → nearestVertex grid positions direction ≡ Refused reason
-  unfolding nearestVertex
+  pub nearest-refused : (reason : Refusal) → cellRows grid positions direction ≡ Verdicts.Refused reason → gridNearest grid positions direction ≡ Refused reason
+  unfolding gridNearest
   nearest-refused reason h = rw h refl
 
   pub nearest-passed : cellRows grid positions direction ≡ Verdicts.Passed
-      → nearestVertex grid positions direction ≡ nearestIn positions (normalized direction) (candidates grid (cellOfQuery grid direction))
-  unfolding nearestVertex
+      → gridNearest grid positions direction ≡ nearestIn positions (normalized direction) (candidates grid (cellOfQuery grid direction))
+  unfolding gridNearest
   nearest-passed h = rw h refl
 
 -- ---- candidates taken through p, each at the distance it had

@@ -21,14 +21,14 @@ use Rattle.mesh.specs.Mesh.{vertexCount}
 use Rattle.mesh.specs.Rows.{positionsFit, notFalling, idsBelow}
 use Rattle.grid.specs.Settings.{factorFits, marginFits}
 use Rattle.grid.specs.Grid.{Grid}
-use Rattle.grid.specs.Stored.{sideFits, startsCounted}
+use Rattle.grid.specs.Stored.{sideFits, bothStartsCounted}
 use Rattle.grid_query.specs.declared.Nearest.{Nearest}
 use Rattle.grid_query.specs.declared.Nearest.the-variants as nearest
 use Rattle.grid_query.specs.declared.Located.{Located}
 use Rattle.grid_query.specs.declared.Located.the-variants as location
 use Rattle.grid_query.specs.Cell.{cellOfQuery, partWithin, candidates, triplesAt, cellRows}
-use Rattle.grid_query.specs.Nearest.{nearestOf, nearestIn, nearestVertex}
-use Rattle.grid_query.specs.Locate.{weighedBy, weighed, leastKept, keptBy, keptOf, triplesWithin, triangleRows, locatedAt, locate}
+use Rattle.grid_query.specs.Nearest.{nearestOf, nearestIn, gridNearest}
+use Rattle.grid_query.specs.Locate.{weighedBy, weighed, leastKept, keptBy, keptOf, triplesWithin, triangleRows, locatedAt, gridLocate}
 
 -- the part i of a list falls: the start behind it is below its own
 abbrev pub PartFalls : List ℕ → ℕ → Type 0
@@ -88,15 +88,15 @@ module _ (P : Refusal → Type 0) (plain : (number : ℕ) → number ≢ 17 → 
         reasons-row P (factorFits (grid .settings .factor)) (refusal 19) _ (λ e. at-19) (λ factor.
         reasons-row P (marginFits (grid .settings .margin)) (refusal 20) _ (λ e. at-20) (λ margin.
         reasons-row P (sideFits grid positions) (refusal 2) _ (λ e. at-2) (λ side.
-        reasons-row P (startsCounted grid positions) (refusal 3) _ (λ e. at-3) (λ counted.
+        reasons-row P (bothStartsCounted grid positions) (refusal 3) _ (λ e. at-3) (λ counted.
         reasons-row P (admissible direction) (refusal 9) _ (λ e. at-9) (λ admitted.
         reasons-row P (notFalling (grid .cellStarts) cell) (refusalAt 18 (suc cell)) _ (falls (grid .cellStarts) cell at-cell) (λ ascends.
         reasons-row P (partWithin (grid .cellStarts) (length (grid .cellIds)) cell) (refusal 3) _ (λ e. at-3) (λ within.
         reasons-row P (ltb 0 (length (candidates grid cell))) (refusal 11) _ (λ e. at-11) (λ some.
         reasons-row P (idsBelow (vertexCount positions) (candidates grid cell)) (refusal 4) verdict.Passed (λ e. at-4) (λ below. reasons-passed P))))))))))
 
-    nearest-reason : NearestReason P (nearestVertex grid positions direction)
-    unfolding nearestVertex nearestIn
+    nearest-reason : NearestReason P (gridNearest grid positions direction)
+    unfolding gridNearest nearestIn
     nearest-reason = reasons-answer P (NearestReason P) (cellRows grid positions direction) nearest.Refused _ cell-reasons (λ own p. p) tt
 
   -- rows 18, 3, 4 at the vertex v
@@ -129,8 +129,8 @@ module _ (P : Refusal → Type 0) (plain : (number : ℕ) → number ≢ 17 → 
     vertex = nearestOfQuery grid positions direction
 
     locate-reason : (PartFalls (grid .cellStarts) (cellOfQuery grid direction) → P (refusalAt 18 (suc (cellOfQuery grid direction)))) → (PartFalls (grid .triangleStarts) vertex → P (refusalAt 18 (suc vertex)))
-        → LocatedReason P (locate grid positions direction)
-    unfolding locate locatedAt
+        → LocatedReason P (gridLocate grid positions direction)
+    unfolding gridLocate locatedAt
     locate-reason at-cell at-vertex =
         reasons-answer P (LocatedReason P) (cellRows grid positions direction) location.Refused _ (cell-reasons direction at-cell) (λ own p. p)
         (reasons-answer P (LocatedReason P) (triangleRows grid positions vertex) location.Refused _ (triangle-reasons vertex at-vertex) (λ own p. p)
@@ -146,12 +146,12 @@ abbrev pub LocationIndex : Grid → ℕ → ℕ → Refusal → Type 0
 LocationIndex grid cell v reason = CellIndex grid cell reason ⊎ ((reason .number ≡ 18) × (reason .index ≡ suc v) × PartFalls (grid .triangleStarts) v)
 
 module _ (grid : Grid) (positions : List Float) (direction : Vector3) where
-  pub nearest-index : (reason : Refusal) → nearestVertex grid positions direction ≡ nearest.Refused reason → CellIndex grid (cellOfQuery grid direction) reason
+  pub nearest-index : (reason : Refusal) → gridNearest grid positions direction ≡ nearest.Refused reason → CellIndex grid (cellOfQuery grid direction) reason
   nearest-index reason h =
       let P = CellIndex grid (cellOfQuery grid direction) in
       subst (NearestReason P) h (nearest-reason P (λ number not-17 not-18. inr (not-18, refl)) grid positions direction (λ falls. inl (refl, refl, falls)))
 
-  pub locate-index : (reason : Refusal) → locate grid positions direction ≡ location.Refused reason → LocationIndex grid (cellOfQuery grid direction) (nearestOfQuery grid positions direction) reason
+  pub locate-index : (reason : Refusal) → gridLocate grid positions direction ≡ location.Refused reason → LocationIndex grid (cellOfQuery grid direction) (nearestOfQuery grid positions direction) reason
   locate-index reason h =
       let P = LocationIndex grid (cellOfQuery grid direction) (nearestOfQuery grid positions direction) in
       subst (LocatedReason P) h
@@ -159,7 +159,7 @@ module _ (grid : Grid) (positions : List Float) (direction : Vector3) where
 
   -- ---- "A query never returns 17"
   pub query-never-17 : (reason : Refusal)
-      → (nearestVertex grid positions direction ≡ nearest.Refused reason → reason .number ≢ 17) × (locate grid positions direction ≡ location.Refused reason → reason .number ≢ 17)
+      → (gridNearest grid positions direction ≡ nearest.Refused reason → reason .number ≢ 17) × (gridLocate grid positions direction ≡ location.Refused reason → reason .number ≢ 17)
   query-never-17 reason =
       let P : Refusal → Type 0 = λ (r : Refusal). r .number ≢ 17 in (
         λ h. subst (NearestReason P) h (nearest-reason P (λ number not-17 not-18. not-17) grid positions direction (λ falls z. omega arith)),

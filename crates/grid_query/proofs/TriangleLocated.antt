@@ -15,9 +15,9 @@ use Rattle.refusal.specs.Refusal.{refusal, refusalAt}
 use Rattle.refusal.proofs.Rows.{row-passed, answer-accepted}
 use Rattle.vector.specs.declared.Vector3.{Vector3}
 use Rattle.vector.specs.Vector.{normalized}
-use Rattle.barycentric.specs.declared.Triple.{Triple}
-use Rattle.barycentric.specs.declared.Weights.{Weights}
-use Rattle.barycentric.specs.Weights.{leastWeight}
+use Rattle.vector.specs.declared.Triple.{Triple}
+use Rattle.vector.specs.declared.Weights.{Weights}
+use Rattle.barycentric.specs.LeastWeight.{leastWeight}
 use Rattle.mesh.specs.Mesh.{vertexCount}
 use Rattle.mesh.specs.Rows.{notFalling, idsBelow}
 use Rattle.grid.specs.Grid.{Grid}
@@ -25,7 +25,7 @@ use Rattle.grid_query.specs.declared.Located.{Located}
 use Rattle.grid_query.specs.declared.Located.the-variants as location
 use Rattle.grid_query.specs.Cell.{cellOfQuery, candidates, inTriples, triplesAt, cellRows}
 use Rattle.grid_query.specs.Nearest.{nearestOf}
-use Rattle.grid_query.specs.Locate.{weighedBy, weighed, leastKept, keptBy, keptOf, triplesWithin, triangleRows, locatedAt, locate}
+use Rattle.grid_query.specs.Locate.{weighedBy, weighed, leastKept, keptBy, keptOf, triplesWithin, triangleRows, locatedAt, gridLocate}
 use Rattle.mesh.proofs.IdsBelow.{ids-below-at}
 
 pub never-located : (reason : Refusal) (triple : Triple) (weights : Weights) (least : Float) → location.Refused reason ≡ location.At triple weights least → ⊥
@@ -72,8 +72,8 @@ kept-sound n positions direction kept (a ∷ b ∷ c ∷ rest) below sound =
 
 -- every triangle that a location answers
 pub triangle-located : (grid : Grid) (positions : List Float) (direction : Vector3) (triple : Triple) (weights : Weights) (least : Float)
-    → locate grid positions direction ≡ location.At triple weights least → LocatedFacts (vertexCount positions) triple weights least
-unfolding locate locatedAt triangleRows triplesAt
+    → gridLocate grid positions direction ≡ location.At triple weights least → LocatedFacts (vertexCount positions) triple weights least
+unfolding gridLocate locatedAt triangleRows triplesAt
 triangle-located grid positions direction triple weights least h =
     let v = nearestOf positions (normalized direction) (candidates grid (cellOfQuery grid direction)) in
     let ids = blockPart 3 (grid .triangleStarts) (grid .triples) v in

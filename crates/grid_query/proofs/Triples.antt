@@ -9,13 +9,14 @@ use lib.ListN.{length, drop, getD, length-drop}
 use lib.Seq.{drop-cons}
 use lib.Ieee.{Float, lt}
 use Rattle.vector.specs.declared.Vector3.{Vector3}
-use Rattle.barycentric.specs.declared.Weights.{Weights}
-use Rattle.barycentric.specs.Weights.{leastWeight}
+use Rattle.vector.specs.declared.Weights.{Weights}
+use Rattle.barycentric.specs.LeastWeight.{leastWeight}
 use Rattle.barycentric.specs.Ericson.{projectedBarycentric}
 use Rattle.mesh.specs.Mesh.{positionOf}
 use Rattle.grid_query.specs.declared.Located.{Located}
 use Rattle.grid_query.specs.Cell.{inTriples}
-use Rattle.grid_query.specs.Locate.{tripleOf, located, weighedBy, leastKept, keptBy, keptOf}
+use Rattle.vector.specs.Triangle.{tripleOf}
+use Rattle.grid_query.specs.Locate.{located, weighedBy, leastKept, keptBy, keptOf}
 
 three-ahead : (l : List ℕ) (i : ℕ) → i + 2 < length l → drop i l ≡ getD l i 0 ∷ getD l (i + 1) 0 ∷ getD l (i + 2) 0 ∷ drop (i + 3) l
 three-ahead l i h =

@@ -21,7 +21,7 @@ use Rattle.grid.specs.Grid.{Grid}
 use Rattle.grid_query.specs.declared.Nearest.{Nearest}
 use Rattle.grid_query.specs.declared.Nearest.the-variants as nearest
 use Rattle.grid_query.specs.Cell.{partWithin, cellOfQuery, candidates, gridRows, candidateRows, cellRows}
-use Rattle.grid_query.specs.Nearest.{squaredDistance, nearestOf, nearestIn, nearestOfCell, nearestVertex}
+use Rattle.grid_query.specs.Nearest.{squaredDistance, nearestOf, nearestIn, nearestOfCell, gridNearest}
 use Rattle.mesh.proofs.IdsBelow.{ids-below-member}
 use Rattle.grid_query.proofs.GridRows.{cell-rows-then}
 use Rattle.grid_query.proofs.NearestCandidate.{nearest-member}
@@ -70,9 +70,9 @@ module _ (grid : Grid) (positions : List Float) (direction : Vector3) (cell : �
       answer-refused (λ (a : Nearest). a ≡ nearest.Refused reason) (candidateRows grid positions cell) nearest.Refused _ reason (λ q. never-found reason _ _ _ (sym q)) (λ other q. cc) h
 
 -- every vertex that a nearest query answers
-pub vertex-found : (grid : Grid) (positions : List Float) (direction : Vector3) (id : ℕ) (distance : Float) (n : ℕ) → nearestVertex grid positions direction ≡ nearest.Found id distance n
+pub vertex-found : (grid : Grid) (positions : List Float) (direction : Vector3) (id : ℕ) (distance : Float) (n : ℕ) → gridNearest grid positions direction ≡ nearest.Found id distance n
     → FoundFacts grid positions (normalized direction) (cellOfQuery grid direction) id distance n
-unfolding nearestVertex nearestOfCell
+unfolding gridNearest nearestOfCell
 vertex-found grid positions direction id distance n h =
     let cell = cellOfQuery grid direction in
     let ids = candidates grid cell in

@@ -11,11 +11,12 @@ use Rattle.refusal.specs.declared.Verdict.the-variants.{Passed}
 use Rattle.refusal.specs.Refusal.{refusal, refusalAt, row}
 use Rattle.vector.specs.declared.Vector3.{Vector3}
 use Rattle.vector.specs.Vector.{normalized}
-use Rattle.vector.specs.Direction.{admissible}
+use Rattle.vector.specs.Direction.{directionRow}
 use Rattle.mesh.specs.Mesh.{vertexCount}
 use Rattle.mesh.specs.Rows.{notFalling, idsBelow}
-use Rattle.grid.specs.declared.Projected.{Projected}
-use Rattle.grid.specs.CubeFace.{zeroFloat, faceProjection, dominantFace}
+use Rattle.grid.specs.declared.cube_face.Projected.{Projected}
+use Rattle.binary64.specs.Constants.{positiveZero}
+use Rattle.grid.specs.CubeFace.{faceProjection, dominantFace}
 use Rattle.binary64.specs.Convert.{whole}
 use Rattle.grid.specs.Cells.{acrossCells}
 use Rattle.grid.specs.Grid.{Grid}
@@ -23,7 +24,7 @@ use Rattle.grid.specs.Stored.{storedRows}
 
 -- A query "clamps to 0..g − 1 before it converts".
 unfoldable pub clampedCell : ℕ → Float → ℕ
-clampedCell g x = toUnsigned 64 (cond (lt x zeroFloat) zeroFloat (cond (lt (whole (g - 1)) x) (whole (g - 1)) x))
+clampedCell g x = toUnsigned 64 (cond (lt x positiveZero) positiveZero (cond (lt (whole (g - 1)) x) (whole (g - 1)) x))
 
 -- "ci" and "cj" of what a face of the cube shows.
 abbrev pub ciOf : ℕ → Projected → ℕ
@@ -64,7 +65,7 @@ triplesAt grid v = inTriples (blockPart 3 (grid .triangleStarts) (grid .triples)
 
 -- Rows 2, 19, 20, 2, 3 and then 9, which come before the cell is read, and then the next ones.
 abbrev pub gridRows : Grid → List Float → Vector3 → Verdict → Verdict
-gridRows grid positions direction next = storedRows grid positions (row (admissible direction) (refusal 9) next)
+gridRows grid positions direction next = storedRows grid positions (directionRow direction next)
 
 -- "then in its cell" rows 18, 3, 11, 4. Where its part falls, the start below the one before it is that behind the cell's own.
 abbrev pub candidateRows : Grid → List Float → ℕ → Verdict

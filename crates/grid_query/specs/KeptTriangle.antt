@@ -8,14 +8,14 @@ use Rattle.refusal.specs.Refusal.{refusal, answer}
 use Rattle.binary64.specs.Minimum.{minimumNumber, SameButZeroSign}
 use Rattle.vector.specs.declared.Vector3.{Vector3}
 use Rattle.vector.specs.Vector.{normalized}
-use Rattle.barycentric.specs.declared.Weights.{Weights}
-use Rattle.barycentric.specs.Weights.{leastWeight}
+use Rattle.vector.specs.declared.Weights.{Weights}
+use Rattle.barycentric.specs.LeastWeight.{leastWeight}
 use Rattle.grid.specs.Grid.{Grid}
 use Rattle.grid_query.specs.declared.Located.{Located}
 use Rattle.grid_query.specs.declared.Located.the-variants.{Refused, At}
 use Rattle.grid_query.specs.Cell.{cellOfQuery, candidates, triplesAt, cellRows}
 use Rattle.grid_query.specs.Nearest.{nearestOf}
-use Rattle.grid_query.specs.Locate.{keptBy, keptOf, triangleRows, locate}
+use Rattle.grid_query.specs.Locate.{keptBy, keptOf, triangleRows, gridLocate}
 
 -- The same refusal, or the same triangle with the same weights.
 abbrev pub SameTriangle : Located → Located → Type 0
@@ -33,7 +33,7 @@ abbrev pub KeptWhicheverZero : Type 0
 KeptWhicheverZero = (rule : ℕ → Weights → Float) → OpenAtZero rule → (positions : List Float) (direction : Vector3) (triples : List (List ℕ))
     → SameTriangle (keptOf positions direction (Refused (refusal 12)) triples) (keptBy rule positions direction (Refused (refusal 12)) triples)
 
--- A location with its leasts by a rule; `locate` is that by the least weight.
+-- A location with its leasts by a rule; `gridLocate` is that by the least weight.
 unfoldable pub locateBy : (ℕ → Weights → Float) → Grid → List Float → Vector3 → Located
 locateBy rule grid positions direction =
     let nearest = nearestOf positions (normalized direction) (candidates grid (cellOfQuery grid direction)) in
@@ -43,7 +43,7 @@ locateBy rule grid positions direction =
 -- The same of a whole location: any grid, positions and direction, accepted or refused.
 abbrev pub LocatedWhicheverZero : Type 0
 LocatedWhicheverZero = (rule : ℕ → Weights → Float) → OpenAtZero rule → (grid : Grid) (positions : List Float) (direction : Vector3)
-    → SameTriangle (locate grid positions direction) (locateBy rule grid positions direction)
+    → SameTriangle (gridLocate grid positions direction) (locateBy rule grid positions direction)
 
 -- ---- rules that are open at zero
 -- "Rust leaves the sign of such a zero open": a minimum that differs from minimumNumber there at most, and may choose anew for each triangle.

@@ -11,9 +11,10 @@ use Rattle.refusal.specs.declared.Verdict.the-variants.{Passed}
 use Rattle.refusal.specs.Refusal.{refusal, refusalAt, row, answer}
 use Rattle.vector.specs.declared.Vector3.{Vector3}
 use Rattle.vector.specs.Vector.{normalized}
-use Rattle.barycentric.specs.declared.Triple.{Triple}
-use Rattle.barycentric.specs.declared.Weights.{Weights}
-use Rattle.barycentric.specs.Weights.{leastWeight}
+use Rattle.vector.specs.Triangle.{tripleOf}
+use Rattle.vector.specs.declared.Triple.{Triple}
+use Rattle.vector.specs.declared.Weights.{Weights}
+use Rattle.barycentric.specs.LeastWeight.{leastWeight}
 use Rattle.barycentric.specs.Ericson.{projectedBarycentric}
 use Rattle.mesh.specs.Mesh.{vertexCount, positionOf}
 use Rattle.mesh.specs.Rows.{notFalling, idsBelow}
@@ -22,9 +23,6 @@ use Rattle.grid_query.specs.declared.Located.{Located}
 use Rattle.grid_query.specs.declared.Located.the-variants.{Refused, At}
 use Rattle.grid_query.specs.Cell.{cellOfQuery, candidates, triplesAt, cellRows}
 use Rattle.grid_query.specs.Nearest.{nearestOf}
-
-abbrev pub tripleOf : ℕ → ℕ → ℕ → Triple
-tripleOf first second third = record { first = first; second = second; third = third }
 
 -- A triangle as an answer.
 abbrev pub located : Triple → Weights → Located
@@ -74,7 +72,7 @@ locatedAt grid positions direction v =
     answer (triangleRows grid positions v) Refused (keptOf positions direction (Refused (refusal 12)) (triplesAt grid v))
 
 -- The whole outcome of a location. Nothing is lent for writing.
-unfoldable pub locate : Grid → List Float → Vector3 → Located
-locate grid positions direction =
+unfoldable pub gridLocate : Grid → List Float → Vector3 → Located
+gridLocate grid positions direction =
     let nearest = nearestOf positions (normalized direction) (candidates grid (cellOfQuery grid direction)) in
     answer (cellRows grid positions direction) Refused (locatedAt grid positions (normalized direction) nearest)

@@ -34,7 +34,7 @@ unfoldable pub nearestOfCell : Grid → List Float → Vector3 → ℕ → Neare
 nearestOfCell grid positions direction cell = answer (candidateRows grid positions cell) Refused (nearestIn positions direction (candidates grid cell))
 
 -- The whole outcome of a nearest query. Nothing is lent for writing.
-unfoldable pub nearestVertex : Grid → List Float → Vector3 → Nearest
-nearestVertex grid positions direction =
+unfoldable pub gridNearest : Grid → List Float → Vector3 → Nearest
+gridNearest grid positions direction =
     answer (cellRows grid positions direction) Refused
     (nearestIn positions (normalized direction) (candidates grid (cellOfQuery grid direction)))

@@ -7,33 +7,33 @@ ghost use lib.ListN.{length};
 ghost use lib.Ieee.{lt};
 ghost use Rattle.refusal.specs.Refusal.{refusal};
 ghost use Rattle.refusal.specs.declared.Verdict.the-variants.{Passed};
-ghost use Rattle.barycentric.specs.Weights.{leastWeight};
+ghost use Rattle.barycentric.specs.LeastWeight.{leastWeight};
 ghost use Rattle.barycentric.specs.Ericson.{projectedBarycentric};
 ghost use Rattle.mesh.specs.Mesh.{vertexCount, positionOf};
 ghost use Rattle.mesh.specs.Rows.{greatestCount, idsBelow};
-ghost use Rattle.grid.specs.declared.Settings.{Settings};
+ghost use Rattle.grid.specs.declared.settings.Settings.{Settings};
 ghost use Rattle.grid.specs.Stored.{lentGrid};
 ghost use Rattle.grid_query.specs.declared.Located.the-variants.{Refused};
 ghost use Rattle.grid_query.specs.Cell.{clampedCell, cellOf, inTriples, gridRows};
-ghost use Rattle.grid_query.specs.Nearest.{squaredDistance, nearestIn, nearestOfCell, nearestVertex};
-ghost use Rattle.grid_query.specs.Locate.{located, leastKept, keptOf, locatedAt, locate};
-use barycentric::Triple;
-use barycentric::Weights;
+ghost use Rattle.grid_query.specs.Nearest.{squaredDistance, nearestIn, nearestOfCell, gridNearest};
+ghost use Rattle.grid_query.specs.Locate.{located, leastKept, keptOf, locatedAt, gridLocate};
 use barycentric::least_weight;
 use barycentric::projected_barycentric;
 use binary64::rank;
-use grid::Settings;
-use grid::across_cells;
-use grid::check_stored;
-use grid::cube_face_project;
-use grid::dominant_face;
-use grid::usual_passes;
+use grid::cube_face::cube_face_project;
+use grid::cube_face::dominant_face;
+use grid::placement::across_cells;
+use grid::settings::Settings;
+use grid::stored_grid::check_stored;
+use grid::stored_grid::usual_passes;
 use mesh::ids_below;
 use mesh::position;
 use mesh::vertex_count;
 use refusal::Refusal;
 use refusal::Verdict;
+use vector::Triple;
 use vector::Vector3;
+use vector::Weights;
 
 // What a nearest query answers: the first row that refuses; or the vertex, its squared distance and how many candidates were compared.
 pub enum Nearest {
@@ -286,7 +286,7 @@ pub fn find_nearest_vertex(
     triangle_starts: &[u32],
     direction: Vector3,
 ) -> Nearest
-    ensures { λ r. ⌜ ((triples : List ℕ) → r ≡ nearestVertex (lentGrid settings side (now («cell_starts» .entry)) (now («cell_ids» .entry)) (now («triangle_starts» .entry)) triples) (now (positions .entry)) direction) ⌝ }
+    ensures { λ r. ⌜ ((triples : List ℕ) → r ≡ gridNearest (lentGrid settings side (now («cell_starts» .entry)) (now («cell_ids» .entry)) (now («triangle_starts» .entry)) triples) (now (positions .entry)) direction) ⌝ }
 {
     let g = side as usize;
     let usual = usual_passes(positions, settings, g, cell_starts, triangle_starts);
@@ -322,7 +322,7 @@ pub fn locate(
     triples: &[u16],
     direction: Vector3,
 ) -> Located
-    ensures { λ r. ⌜ r ≡ locate (lentGrid settings side (now («cell_starts» .entry)) (now («cell_ids» .entry)) (now («triangle_starts» .entry)) (now (triples .entry))) (now (positions .entry)) direction ⌝ }
+    ensures { λ r. ⌜ r ≡ gridLocate (lentGrid settings side (now («cell_starts» .entry)) (now («cell_ids» .entry)) (now («triangle_starts» .entry)) (now (triples .entry))) (now (positions .entry)) direction ⌝ }
 {
     let g = side as usize;
     let usual = usual_passes(positions, settings, g, cell_starts, triangle_starts);

@@ -1,23 +1,16 @@
 -- Laws of row 1 by its two ends. Assumes nothing.
-use Prim.Native.Nat.{ℕ, _≤_, _<_}
+use Prim.Native.Nat.{ℕ, _≤_}
 use mathlib.Core.Path.{_≡_, refl}
-use mathlib.Core.Bool.{Bool, true, false, _&&_}
+use mathlib.Core.Bool.{true}
 use lib.Dec.{leb}
-use borrow.Author.Tests.{le-leb, lt-leb}
-use Rattle.icosahedron.specs.Slots.{frequencyFits}
+use borrow.Author.Tests.{le-leb, leb-true}
+use Rattle.booleans.proofs.Booleans.{and-split}
+use Rattle.icosahedron.specs.Slots.{greatestFrequency, frequencyFits, IsFrequency}
 
-pub frequency-low : (n : ℕ) → n < 1 → frequencyFits n ≡ false
+pub frequency-fits : (n : ℕ) → 1 ≤ n → n ≤ greatestFrequency → frequencyFits n ≡ true
 unfolding frequencyFits
-frequency-low n lt = rw (lt-leb 1 n lt) refl
+frequency-fits n low high = rw (le-leb 1 n low, le-leb n greatestFrequency high) refl
 
-and-fails : (b : Bool) → (b && false) ≡ false
-and-fails true = refl
-and-fails false = refl
-
-pub frequency-high : (n : ℕ) → 80 < n → frequencyFits n ≡ false
+pub frequency-range : (n : ℕ) → frequencyFits n ≡ true → IsFrequency n
 unfolding frequencyFits
-frequency-high n lt = rw (lt-leb n 80 lt) (and-fails (leb 1 n))
-
-pub frequency-fits : (n : ℕ) → 1 ≤ n → n ≤ 80 → frequencyFits n ≡ true
-unfolding frequencyFits
-frequency-fits n lo hi = rw (le-leb 1 n lo, le-leb n 80 hi) refl
+frequency-range n h = let ends = and-split (leb 1 n) (leb n greatestFrequency) h in (leb-true 1 n (ends .0), leb-true n greatestFrequency (ends .1))

@@ -3,7 +3,7 @@
 ghost use mathlib.Core.Path.{_≡_};
 ghost use Prim.Native.Nat.{_+_, _<_, _≤_};
 ghost use Rattle.icosahedron.specs.Icosahedron.{icosahedronPoint, faceCorner, cornerPoint};
-ghost use Rattle.icosahedron.specs.Slots.{slotOf, slotsPerFace, vertexCount};
+ghost use Rattle.icosahedron.specs.Slots.{frequencyFits, slotOf, slotsPerFace, latticeVertexCount};
 use vector::Vector3;
 
 // The twelve points: the bits that `icosahedron_points` of the source printed once.
@@ -165,7 +165,7 @@ pub fn icosahedron_point(index: usize) -> Vector3
 
 // The point's index at a corner of a master face.
 pub fn face_corner(face: usize, corner: usize) -> u8
-    requires { ⌜ (face < 20) × (corner < 3) ⌝ }
+    requires { ⌜ face < 20 ⌝ ∗ ⌜ corner < 3 ⌝ }
     ensures { λ r. ⌜ r ≡ faceCorner face corner ⌝ }
 {
     FACE_VERTICES[face * 3 + corner]
@@ -173,16 +173,23 @@ pub fn face_corner(face: usize, corner: usize) -> u8
 
 // The point at a corner of a master face.
 pub fn corner_point(face: usize, corner: usize) -> Vector3
-    requires { ⌜ (face < 20) × (corner < 3) ⌝ }
+    requires { ⌜ face < 20 ⌝ ∗ ⌜ corner < 3 ⌝ }
     ensures { λ r. ⌜ r ≡ cornerPoint face corner ⌝ }
 {
     let index = face_corner(face, corner) as usize;
     icosahedron_point(index)
 }
 
+// Row 1: a frequency from 1 to 80.
+pub fn frequency_fits(n: usize) -> bool
+    ensures { λ r. ⌜ r ≡ frequencyFits n ⌝ }
+{
+    (1 <= n) & (n <= 80)
+}
+
 // The place of the lattice point (a, b, n - a - b) among the slots of its face.
 pub fn tri_index(n: usize, a: usize, b: usize) -> usize
-    requires { ⌜ (n ≤ 80) × (a + b ≤ n) ⌝ }
+    requires { ⌜ n ≤ 80 ⌝ ∗ ⌜ a + b ≤ n ⌝ }
     ensures { λ r. ⌜ r ≡ slotOf n a b ⌝ }
 {
     a * (n + 1) - (a * a - a) / 2 + b
@@ -197,9 +204,9 @@ pub fn slots_per_face(n: usize) -> usize
 }
 
 // How many vertices the lattice of frequency n has.
-pub fn vertex_count(n: usize) -> usize
+pub fn lattice_vertex_count(n: usize) -> usize
     requires { ⌜ n ≤ 80 ⌝ }
-    ensures { λ r. ⌜ r ≡ vertexCount n ⌝ }
+    ensures { λ r. ⌜ r ≡ latticeVertexCount n ⌝ }
 {
     10 * (n * n) + 2
 }

@@ -12,11 +12,11 @@ use Rattle.mesh.specs.Mesh.{Mesh}
 use Rattle.mesh.specs.Adjacency.{Mutual}
 use Rattle.mesh.proofs.Facts.{MeshFacts}
 use Rattle.mesh.proofs.Renumbered.{Renumbered}
-use Rattle.grid.specs.declared.Settings.{Settings}
+use Rattle.grid.specs.declared.settings.Settings.{Settings}
 use Rattle.grid.specs.Grid.{gridOf}
 use Rattle.grid.proofs.Cells.{same-side}
 use Rattle.grid_query.specs.Cell.{cellOfQuery, candidates, cellRows}
-use Rattle.grid_query.specs.Nearest.{squaredDistance, nearestOf, nearestIn, nearestVertex}
+use Rattle.grid_query.specs.Nearest.{squaredDistance, nearestOf, nearestIn, gridNearest}
 use Rattle.grid_query.proofs.Distance.{squared-distance-not-nan}
 use Rattle.grid_query.proofs.NearestCandidate.{nearest-member, nearest-lowest, nearest-answer, nearest-refused, nearest-passed, nearest-same-distance, nearest-alone}
 use Rattle.grid_query.proofs.Cell.{candidates-ascending, candidate-below, passed-direction, passed-some, candidates-renumbered, same-cell, same-candidates, same-cell-rows, triples-renumbered}
@@ -53,7 +53,7 @@ module _ (m m₁ : Mesh) (settings : Settings) {p b : ℕ → ℕ} (facts : Mesh
       → SameNearest p
       (squaredDistance (m .positions) (normalized direction)) (candidates (gridOf m settings) (cellOfQuery (gridOf m settings) direction))
       (squaredDistance (m₁ .positions) (normalized direction)) (candidates (gridOf m₁ settings) (cellOfQuery (gridOf m₁ settings) direction))
-      (nearestVertex (gridOf m settings) (m .positions) direction) (nearestVertex (gridOf m₁ settings) (m₁ .positions) direction)
+      (gridNearest (gridOf m settings) (m .positions) direction) (gridNearest (gridOf m₁ settings) (m₁ .positions) direction)
   same-nearest direction = go (cellRows (gridOf m settings) (m .positions) direction) refl
     where
       same : cellRows (gridOf m₁ settings) (m₁ .positions) direction ≡ cellRows (gridOf m settings) (m .positions) direction
@@ -63,7 +63,7 @@ module _ (m m₁ : Mesh) (settings : Settings) {p b : ℕ → ℕ} (facts : Mesh
           → SameNearest p
           (squaredDistance (m .positions) (normalized direction)) (candidates (gridOf m settings) (cellOfQuery (gridOf m settings) direction))
           (squaredDistance (m₁ .positions) (normalized direction)) (candidates (gridOf m₁ settings) (cellOfQuery (gridOf m₁ settings) direction))
-          (nearestVertex (gridOf m settings) (m .positions) direction) (nearestVertex (gridOf m₁ settings) (m₁ .positions) direction)
+          (gridNearest (gridOf m settings) (m .positions) direction) (gridNearest (gridOf m₁ settings) (m₁ .positions) direction)
       go (Refused reason) e = rw (nearest-refused (gridOf m settings) (m .positions) direction reason e, nearest-refused (gridOf m₁ settings) (m₁ .positions) direction reason (same ∙ e)) refl
       go Passed e =
           rw (nearest-passed (gridOf m settings) (m .positions) direction e, nearest-passed (gridOf m₁ settings) (m₁ .positions) direction (same ∙ e), same-cell m m₁ settings r direction)

@@ -7,8 +7,8 @@ use mathlib.Core.Bool.{Bool, true, false}
 use mathlib.Core.List.{List}
 use lib.ListN.{length, getD, drop}
 use lib.Ieee.{Float, nan}
+use Rattle.booleans.proofs.Booleans.{true-or-false}
 use Rattle.sequences.specs.Permutation.{at, IsPermutation}
-use Rattle.sequences.proofs.Range.{true-or-false}
 use Rattle.refusal.specs.declared.Verdict.the-variants.{Passed}
 use Rattle.vector.specs.declared.Vector3.{Vector3}
 use Rattle.mesh.specs.Mesh.{Mesh, count, positionOf}
@@ -18,11 +18,11 @@ use Rattle.mesh.proofs.Facts.{AdjacencyFacts, MeshFacts, mesh-facts, mesh-passe
 use Rattle.mesh.proofs.Renumbered.{admissible-renumbered}
 use Rattle.renumber.specs.Renumber.{Call, entriesPerVertexFit, longestLength}
 use Rattle.renumber.proofs.RenumberedData.{fit-single, fit-paired, renumbered-data-tail, renumbered-single, renumbered-pair}
-use Rattle.grid.specs.declared.Settings.{Settings}
+use Rattle.grid.specs.declared.settings.Settings.{Settings}
 use Rattle.grid.specs.declared.Build.the-variants.{Built}
 use Rattle.grid.specs.Cells.{sideOf}
 use Rattle.grid.specs.Held.{heldConversions}
-use Rattle.grid.specs.Grid.{GridSlices, buildRows, build}
+use Rattle.grid.specs.Grid.{GridSlices, buildRows, buildGrid}
 use Rattle.grid.proofs.Grid.{cut-build, built-held}
 use Rattle.grid.proofs.Held.{same-held}
 use Rattle.grid.proofs.Room.{same-build-rows}
@@ -95,7 +95,7 @@ renumbering-same-room m mark values calls rows mutual-lists no-repeat settings l
 
 -- A mesh after the list has as many conversions held at an end as before, whatever slices the builder was lent, as long as it accepted both.
 pub renumbering-same-held : (m : Mesh) (mark : Bool) (values : List Float) (calls : List Call) → meshRows m ≡ Passed → (settings : Settings) (lent lent₁ : GridSlices) (g g₁ held held₁ : ℕ)
-    → build m settings lent .answered ≡ Built g held → build (afterCalls (stateOf m mark values) calls .mesh) settings lent₁ .answered ≡ Built g₁ held₁ → held₁ ≡ held
+    → buildGrid m settings lent .answered ≡ Built g held → buildGrid (afterCalls (stateOf m mark values) calls .mesh) settings lent₁ .answered ≡ Built g₁ held₁ → held₁ ≡ held
 renumbering-same-held m mark values calls rows settings lent lent₁ g g₁ held held₁ built built₁ =
     let new = after-calls m values (mesh-facts m rows .adjacency) mark calls .mesh in
     let after = afterCalls (stateOf m mark values) calls .mesh in

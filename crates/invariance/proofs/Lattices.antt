@@ -10,9 +10,9 @@ use Rattle.renumber.specs.Renumber.{Call, longestLength}
 use Rattle.lattice.specs.Lattice.{latticeMesh}
 use Rattle.lattice.proofs.Neighbours.{lattice-mutual, lattice-no-repeat}
 use Rattle.lattice.proofs.Rows.{lattice-mesh-rows}
-use Rattle.grid.specs.declared.Settings.{Settings}
+use Rattle.grid.specs.declared.settings.Settings.{Settings}
 use Rattle.grid.specs.declared.Build.the-variants.{Built}
-use Rattle.grid.specs.Grid.{GridSlices, buildRows, build}
+use Rattle.grid.specs.Grid.{GridSlices, buildRows, buildGrid}
 use Rattle.invariance.specs.Calls.{State, stateOf, afterCalls, accumulatedPermutation, AcceptedHave}
 use Rattle.invariance.specs.Claim.{Invariant}
 use Rattle.invariance.proofs.Invariance.{renumbering-invariance, renumbering-same-room, renumbering-same-held}
@@ -31,5 +31,5 @@ module _ (n : ℕ) (lo : 1 ≤ n) (hi : n ≤ 80) (mark : Bool) (values : List F
 
   -- And as many conversions are held at an end.
   pub lattice-same-held : (settings : Settings) (lent lent₁ : GridSlices) (g g₁ held held₁ : ℕ)
-      → build (latticeMesh n) settings lent .answered ≡ Built g held → build (afterCalls start calls .mesh) settings lent₁ .answered ≡ Built g₁ held₁ → held₁ ≡ held
+      → buildGrid (latticeMesh n) settings lent .answered ≡ Built g held → buildGrid (afterCalls start calls .mesh) settings lent₁ .answered ≡ Built g₁ held₁ → held₁ ≡ held
   lattice-same-held = renumbering-same-held (latticeMesh n) mark values calls (lattice-mesh-rows n lo hi)

@@ -4,7 +4,7 @@ use mathlib.Core.List.{List, [], _∷_}
 use lib.Ieee.{Float}
 use Rattle.mesh.specs.Mesh.{Mesh}
 use Rattle.mesh.specs.Mark.{Truthful}
-use Rattle.renumber.specs.Renumber.{Call, renumber}
+use Rattle.renumber.specs.Renumber.{Call, applyVertexPermutation}
 use Rattle.renumber.proofs.Mark.{renumbering-truthful, renumbering-same}
 use Rattle.invariance.specs.Calls.{State, afterCall, afterCalls}
 
@@ -23,5 +23,5 @@ calls-same state other [] same-mesh same-values = (same-mesh, same-values)
 calls-same state other (call ∷ calls) same-mesh same-values =
     let alike = renumbering-same (state .mesh) (state .values) call (state .mark) (other .mark) in
     calls-same (afterCall state call) (afterCall other call) calls
-    (alike .mesh ∙ ap₂ (λ (m : Mesh) (values : List Float). renumber m (other .mark) values call .mesh) same-mesh same-values)
-    (alike .values ∙ ap₂ (λ (m : Mesh) (values : List Float). renumber m (other .mark) values call .values) same-mesh same-values)
+    (alike .mesh ∙ ap₂ (λ (m : Mesh) (values : List Float). applyVertexPermutation m (other .mark) values call .mesh) same-mesh same-values)
+    (alike .values ∙ ap₂ (λ (m : Mesh) (values : List Float). applyVertexPermutation m (other .mark) values call .values) same-mesh same-values)

@@ -8,7 +8,7 @@ use Rattle.sequences.specs.Permutation.{identity, compose}
 use Rattle.refusal.specs.declared.Verdict.the-variants.{Passed}
 use Rattle.refusal.specs.Refusal.{answer}
 use Rattle.mesh.specs.Mesh.{Mesh, count}
-use Rattle.renumber.specs.Renumber.{Call, callRows, longestLength, renumber}
+use Rattle.renumber.specs.Renumber.{Call, callRows, longestLength, applyVertexPermutation}
 
 -- What the calls of a list are lent, each as the one before it left it: mesh, its mark (W-208) and data.
 pub record State : Type 0 where
@@ -21,7 +21,7 @@ stateOf mesh mark values = record { mesh = mesh; mark = mark; values = values }
 
 unfoldable pub afterCall : State → Call → State
 afterCall state call =
-    let outcome = renumber (state .mesh) (state .mark) (state .values) call in
+    let outcome = applyVertexPermutation (state .mesh) (state .mark) (state .values) call in
     stateOf (outcome .mesh) (outcome .mark) (outcome .values)
 
 unfoldable pub afterCalls : State → List Call → State

@@ -7,25 +7,22 @@ use mathlib.Core.List.{List, map, List·Memᴰ}
 use lib.ListN.{length, getD, drop}
 use lib.Ieee.{Float, nan, isNan}
 use Rattle.sequences.specs.Ascending.{sort}
+use Rattle.sequences.specs.Least.{Alone}
 use Rattle.refusal.specs.declared.Verdict.the-variants.{Passed}
 use Rattle.vector.specs.declared.Vector3.{Vector3}
 use Rattle.vector.specs.Vector.{normalized}
 use Rattle.mesh.specs.Mesh.{Mesh, count, neighbours}
 use Rattle.mesh.specs.Rows.{meshRows}
 use Rattle.grid.specs.declared.Build.the-variants.{Built}
-use Rattle.grid.specs.declared.Settings.{Settings}
+use Rattle.grid.specs.declared.settings.Settings.{Settings}
 use Rattle.grid.specs.Cells.{cellCount}
-use Rattle.grid.specs.Grid.{Grid, GridSlices, build, cut}
+use Rattle.grid.specs.Grid.{Grid, GridSlices, buildGrid, cut}
 use Rattle.grid_query.specs.declared.Nearest.{Nearest}
 use Rattle.grid_query.specs.declared.Nearest.the-variants.{Refused, Found}
 use Rattle.grid_query.specs.Cell.{cellOfQuery, candidates, triplesAt}
-use Rattle.grid_query.specs.Nearest.{squaredDistance, nearestVertex}
+use Rattle.grid_query.specs.Nearest.{squaredDistance, gridNearest}
 
 -- ---- the nearest query. `distance` gives the squared distance of a candidate. Equal doubles that are no NaN have equal bits.
-
--- "Where one candidate alone has these bits": of the ids, i alone has the distance d.
-abbrev pub AloneAt : (ℕ → Float) → List ℕ → ℕ → Float → Type 0
-AloneAt distance ids i d = (j : ℕ) → List·Memᴰ j ids → distance j ≡ d → j ≡ i
 
 -- "each query gives the lowest of its own ids among them": i is the lowest of the ids that have the distance d.
 pub record LowestAt (distance : ℕ → Float) (ids : List ℕ) (i : ℕ) (d : Float) : Type 0 where
@@ -33,13 +30,13 @@ pub record LowestAt (distance : ℕ → Float) (ids : List ℕ) (i : ℕ) (d : F
   pub at-distance : distance i ≡ d
   pub lowest : (j : ℕ) → List·Memᴰ j ids → distance j ≡ d → i ≤ j
 
--- "Distance bits and counts are equal." The earlier query's answer over its candidates, and the later one's.
+-- "Distance bits and counts are equal. Where one candidate alone has these bits, the later id is p of the earlier". The earlier query's answer over its candidates, and the later one's.
 abbrev pub SameNearest : (ℕ → ℕ) → (ℕ → Float) → List ℕ → (ℕ → Float) → List ℕ → Nearest → Nearest → Type 0
 SameNearest p distance ids distance₁ ids₁ (Refused reason) (Refused reason₁) = reason ≡ reason₁
 SameNearest p distance ids distance₁ ids₁ (Refused reason) (Found i₁ d₁ k₁) = ⊥
 SameNearest p distance ids distance₁ ids₁ (Found i d k) (Refused reason₁) = ⊥
 SameNearest p distance ids distance₁ ids₁ (Found i d k) (Found i₁ d₁ k₁) =
-    (d ≡ d₁) × (isNan d ≡ false) × (k ≡ k₁) × (k ≡ length ids) × (k₁ ≡ length ids₁) × LowestAt distance ids i d × LowestAt distance₁ ids₁ i₁ d₁ × (AloneAt distance ids i d → i₁ ≡ p i)
+    (d ≡ d₁) × (isNan d ≡ false) × (k ≡ k₁) × (k ≡ length ids) × (k₁ ≡ length ids₁) × LowestAt distance ids i d × LowestAt distance₁ ids₁ i₁ d₁ × (Alone distance ids i d → i₁ ≡ p i)
 
 -- ---- "Two grids are built, one of the starting mesh and one of the mesh after": `grid` of the mesh m, `grid₁` of the mesh m₁.
 pub record SameGrids (m m₁ : Mesh) (p : ℕ → ℕ) (grid grid₁ : Grid) : Type 0 where
@@ -55,7 +52,7 @@ pub record SameGrids (m m₁ : Mesh) (p : ℕ → ℕ) (grid grid₁ : Grid) : T
       → SameNearest p
       (squaredDistance (m .positions) (normalized direction)) (candidates grid (cellOfQuery grid direction))
       (squaredDistance (m₁ .positions) (normalized direction)) (candidates grid₁ (cellOfQuery grid₁ direction))
-      (nearestVertex grid (m .positions) direction) (nearestVertex grid₁ (m₁ .positions) direction)
+      (gridNearest grid (m .positions) direction) (gridNearest grid₁ (m₁ .positions) direction)
 
 -- ---- the whole claim: mesh m and data `values` at the start, m₁ and `values₁` after the list, p the accumulated permutation. `AllHave each` says that the accepted calls all have `each` entries a vertex.
 -- Where they have not, 01's sentences on data name no form, and the rest is claimed.
@@ -80,5 +77,5 @@ pub record Invariant (m : Mesh) (values : List Float) (m₁ : Mesh) (values₁ :
   pub data-length : length values₁ ≡ length values
   pub tail : (each : ℕ) → AllHave each → drop (length values / (count m * each) * (count m * each)) values₁ ≡ drop (length values / (count m * each) * (count m * each)) values
   -- Whatever slices the builder was lent, as long as it accepted both. "whichever pair is chosen, grids before and after renumbering are built with the same pair" (W-210)
-  pub grids : (settings : Settings) (lent lent₁ : GridSlices) (g g₁ held held₁ : ℕ) → build m settings lent .answered ≡ Built g held → build m₁ settings lent₁ .answered ≡ Built g₁ held₁
-      → SameGrids m m₁ p (cut settings (count m) g (build m settings lent .slices)) (cut settings (count m₁) g₁ (build m₁ settings lent₁ .slices))
+  pub grids : (settings : Settings) (lent lent₁ : GridSlices) (g g₁ held held₁ : ℕ) → buildGrid m settings lent .answered ≡ Built g held → buildGrid m₁ settings lent₁ .answered ≡ Built g₁ held₁
+      → SameGrids m m₁ p (cut settings (count m) g (buildGrid m settings lent .slices)) (cut settings (count m₁) g₁ (buildGrid m₁ settings lent₁ .slices))

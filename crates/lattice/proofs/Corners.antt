@@ -6,8 +6,9 @@ use mathlib.Core.Logic.{_⊎_, inl, inr, _≢_}
 use mathlib.Core.Bool.{Bool, true, false, not, _&&_, _||_, cond}
 use lib.Dec.{ltb, eqb}
 use borrow.Author.Tests.{ltb-true, ltb-false, eqb-true, eqb-false, eq-eqb, ne-eqb, not-true}
+use Rattle.booleans.proofs.Booleans.{and-split, true-or-false, or-split, or-left, or-right, true-false}
 use Rattle.sequences.specs.Range.{allBelow}
-use Rattle.sequences.proofs.Range.{and-split, all-below-at, true-or-false, or-split, or-left, or-right, true-false}
+use Rattle.sequences.proofs.Range.{all-below-at}
 use Rattle.icosahedron.specs.Icosahedron.{faceCorner}
 use Rattle.lattice.specs.Lattice.{weightOn}
 use Rattle.lattice.specs.Appearances.{hasCorner, hasCounted}
@@ -22,7 +23,7 @@ all-well-formed : allBelow wellFormed 20 ≡ true
 unfolding allBelow wellFormed faceCorner
 all-well-formed = refl
 
-pub record Corners (f : ℕ) : Type 0 where
+pub record DistinctCorners (f : ℕ) : Type 0 where
   pub below-0 : faceCorner f 0 < 12
   pub below-1 : faceCorner f 1 < 12
   pub below-2 : faceCorner f 2 < 12
@@ -31,9 +32,9 @@ pub record Corners (f : ℕ) : Type 0 where
   pub differ-12 : faceCorner f 1 ≢ faceCorner f 2
 
 -- a face has three different corners, each one of the twelve
-pub corners : (f : ℕ) → f < 20 → Corners f
+pub corners-distinct : (f : ℕ) → f < 20 → DistinctCorners f
 unfolding wellFormed
-corners f lt =
+corners-distinct f lt =
     let h : wellFormed f ≡ true = all-below-at wellFormed 20 f all-well-formed lt in
     let s = and-split _ _ h in
     let b = and-split _ _ (s .0) in
@@ -51,7 +52,7 @@ corners f lt =
 
 -- ---- the three places of a face
 -- a corner stands at one place
-pub place-unique : (f s t : ℕ) → Corners f → s < 3 → t < 3 → faceCorner f s ≡ faceCorner f t → s ≡ t
+pub place-unique : (f s t : ℕ) → DistinctCorners f → s < 3 → t < 3 → faceCorner f s ≡ faceCorner f t → s ≡ t
 place-unique f zero zero c ls lt e = refl
 place-unique f zero (suc zero) c ls lt e = absurd (c .differ-01 e)
 place-unique f zero (suc (suc zero)) c ls lt e = absurd (c .differ-02 e)
@@ -108,9 +109,9 @@ corner-has f k (at-2 e) = or-right (eqb (faceCorner f 0) k) (eqb (faceCorner f 1
 -- a weight that stands on one of a face's corners is the sum of what stands on the three
 pub weight-on-face : (f k weight : ℕ) → f < 20 → CornerOf f k
     → weightOn k weight (faceCorner f 0) + weightOn k weight (faceCorner f 1) + weightOn k weight (faceCorner f 2) ≡ weight
-weight-on-face f k weight lt h = go h (corners f lt)
+weight-on-face f k weight lt h = go h (corners-distinct f lt)
   where
-    go : CornerOf f k → Corners f → weightOn k weight (faceCorner f 0) + weightOn k weight (faceCorner f 1) + weightOn k weight (faceCorner f 2) ≡ weight
+    go : CornerOf f k → DistinctCorners f → weightOn k weight (faceCorner f 0) + weightOn k weight (faceCorner f 1) + weightOn k weight (faceCorner f 2) ≡ weight
     go (at-0 e) c =
         omega (
           arith,

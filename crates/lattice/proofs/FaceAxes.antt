@@ -3,8 +3,9 @@ use Prim.Native.Nat.{ℕ, zero, suc, _<_}
 use mathlib.Core.Path.{_≡_, refl}
 use mathlib.Core.Bool.{Bool, true, false, _&&_}
 use lib.Ieee.{le, ofBits}
+use Rattle.booleans.proofs.Booleans.{and-split}
 use Rattle.sequences.specs.Range.{allBelow}
-use Rattle.sequences.proofs.Range.{and-split, all-below-at}
+use Rattle.sequences.proofs.Range.{all-below-at}
 use Rattle.icosahedron.specs.Icosahedron.{icosahedronPoint, faceCorner}
 use Rattle.lattice.specs.FaceAxes.{signedOne, cornersBetween, faceAxis, onOneSide}
 

@@ -2,20 +2,21 @@
 use Prim.Native.Nat.{ℕ, _+_, _-_, _≤_, _<_}
 use native.Mathlib.Omega.{arith}
 use mathlib.Core.Path.{_≡_, refl, sym, ap, _∙_}
-use mathlib.Core.Logic.{_⊎_, inl, inr, _↔_}
+use mathlib.Core.Logic.{_⊎_, inl, inr}
 use mathlib.Core.Bool.{true, false}
 use mathlib.Core.List.{List, [], _∷_}
 use lib.Dec.{ltb, eqb}
 use lib.ListN.{getD}
 use borrow.Author.Tests.{eqb-true, eq-eqb}
+use Rattle.booleans.proofs.Booleans.{and-split, and-intro, true-false}
 use Rattle.sequences.specs.Equality.{sameNumbers}
 use Rattle.sequences.specs.Tabulate.{tabulate}
-use Rattle.sequences.proofs.Range.{and-split, and-intro, true-false, below-or-from}
+use Rattle.sequences.proofs.Range.{below-or-from}
 use Rattle.sequences.proofs.Tabulate.{tabulate-at, tabulate-extensional}
 use Rattle.icosahedron.specs.Icosahedron.{faceCorner}
 use Rattle.lattice.specs.Lattice.{LatticePoint, pointAt, weightOn, weightAt, keyOf, sameVertex}
 use Rattle.lattice.specs.Appearances.{OnLattice, hasCounted, hasCorners, liesOn, pointWith, appearanceOn}
-use Rattle.lattice.proofs.Corners.{Corners, corners, CornerOf, at-0, at-1, at-2, weight-on-own, weight-on-other, weight-on-none, weight-on-face, counted-cases, corner-counted, corner-or-not}
+use Rattle.lattice.proofs.Corners.{DistinctCorners, corners-distinct, CornerOf, at-0, at-1, at-2, weight-on-own, weight-on-other, weight-on-none, weight-on-face, counted-cases, corner-counted, corner-or-not}
 
 -- ---- equal keys
 pub same-numbers-equal : (l r : List ℕ) → sameNumbers l r ≡ true → l ≡ r
@@ -44,7 +45,7 @@ module _ (n : ℕ) (p : LatticePoint) (on : OnLattice n p) where
   pub weight-first : weightAt n p (faceCorner (p .face) 0) ≡ p .a
   unfolding weightAt
   weight-first =
-      let c = corners (p .face) (on .face-below) in
+      let c = corners-distinct (p .face) (on .face-below) in
       omega (
         arith,
         weight-on-own (faceCorner (p .face) 0) (p .a) (faceCorner (p .face) 0) refl,
@@ -55,7 +56,7 @@ module _ (n : ℕ) (p : LatticePoint) (on : OnLattice n p) where
   pub weight-second : weightAt n p (faceCorner (p .face) 1) ≡ p .b
   unfolding weightAt
   weight-second =
-      let c = corners (p .face) (on .face-below) in
+      let c = corners-distinct (p .face) (on .face-below) in
       omega (
         arith,
         weight-on-other (faceCorner (p .face) 0) (p .a) (faceCorner (p .face) 1) (c .differ-01),
@@ -66,7 +67,7 @@ module _ (n : ℕ) (p : LatticePoint) (on : OnLattice n p) where
   pub weight-third : weightAt n p (faceCorner (p .face) 2) ≡ n - p .a - p .b
   unfolding weightAt
   weight-third =
-      let c = corners (p .face) (on .face-below) in
+      let c = corners-distinct (p .face) (on .face-below) in
       omega (
         arith,
         weight-on-other (faceCorner (p .face) 0) (p .a) (faceCorner (p .face) 2) (c .differ-02),
@@ -93,9 +94,9 @@ module _ (n : ℕ) (p : LatticePoint) (on : OnLattice n p) where
       go (inr none) = absurd (let e = weight-elsewhere k none in let z : ⊥ = omega arith in z)
 
   pub weight-beyond : (k : ℕ) → 12 ≤ k → weightAt n p k ≡ 0
-  weight-beyond k le = weight-elsewhere k (λ h. go h (corners (p .face) (on .face-below)))
+  weight-beyond k le = weight-elsewhere k (λ h. go h (corners-distinct (p .face) (on .face-below)))
     where
-      go : CornerOf (p .face) k → Corners (p .face) → ⊥
+      go : CornerOf (p .face) k → DistinctCorners (p .face) → ⊥
       go (at-0 e) c = omega (arith, c .below-0)
       go (at-1 e) c = omega (arith, c .below-1)
       go (at-2 e) c = omega (arith, c .below-2)
@@ -154,10 +155,6 @@ module _ (n f : ℕ) (weight : ℕ → ℕ) (below : f < 20)
       go : CornerOf f k ⊎ (CornerOf f k → ⊥) → weightAt n p k ≡ weight k
       go (inl c) = at c
       go (inr no-corner) = weight-elsewhere n p on k no-corner ∙ sym (none k no-corner)
-
-point-with-face : (f : ℕ) (weight : ℕ → ℕ) → f ≡ pointWith f weight .face
-unfolding pointWith
-point-with-face f weight = refl
 
 -- ---- the faces that a point lies on
 pub record LiesOn (n f : ℕ) (p : LatticePoint) : Type 0 where
@@ -222,23 +219,3 @@ same-weights-lies-on n p q onp onq same =
   where
     has-it : (k : ℕ) → 0 < weightAt n p k → CornerOf (q .face) k
     has-it k pos = weight-corner n q onq k (rw (same k) at pos)
-
--- two points are one vertex exactly where the first lies on the second's face and the second is its appearance there
-pub same-vertex-appearance : (n : ℕ) (p q : LatticePoint) → OnLattice n p → OnLattice n q
-    → sameVertex n p q ≡ true ↔ ((liesOn n (q .face) p ≡ true) × (q ≡ appearanceOn n (q .face) p))
-same-vertex-appearance n p q onp onq = (forth, back)
-  where
-    forth : sameVertex n p q ≡ true → (liesOn n (q .face) p ≡ true) × (q ≡ appearanceOn n (q .face) p)
-    forth h =
-        let same = same-vertex-weights n p q onp onq h in
-        let lies = same-weights-lies-on n p q onp onq same in
-        let l = lies-on n (q .face) p lies in (
-          lies,
-          same-face-point n q (appearanceOn n (q .face) p) onq (appearance-on-lattice n (q .face) p onp (onq .face-below) l) (point-with-face (q .face) (weightAt n p))
-              (λ k. sym (same k) ∙ sym (appearance-weights n (q .face) p onp (onq .face-below) l k)),
-        )
-
-    back : (liesOn n (q .face) p ≡ true) × (q ≡ appearanceOn n (q .face) p) → sameVertex n p q ≡ true
-    back (lies, e) =
-        weights-same-vertex n p q
-        (λ k. sym (appearance-weights n (q .face) p onp (onq .face-below) (lies-on n (q .face) p lies) k) ∙ ap (λ (r : LatticePoint). weightAt n r k) (sym e))

@@ -8,12 +8,13 @@ use mathlib.Core.List.{List, map, List·Memᴰ, Memᴰ·map, Memᴰ·of-map, Mem
 use lib.Dec.{ltb, eqb}
 use lib.ListN.{length, length-map}
 use borrow.Author.Tests.{ltb-true, ltb-false, lt-ltb, eqb-true, eqb-false, ne-eqb, not-true}
+use Rattle.booleans.proofs.Booleans.{true-or-false, and-split, and-intro, or-left, or-right, true-false}
 use Rattle.sequences.specs.Range.{allBelow, someBelow, sumBelow}
 use Rattle.sequences.specs.Tabulate.{tabulate}
 use Rattle.sequences.specs.Starts.{startOf}
 use Rattle.sequences.specs.Filter.{filter, filterRange}
 use Rattle.sequences.specs.Ascending.{Distinct, SameMembers}
-use Rattle.sequences.proofs.Range.{sum-extensional, true-or-false, and-split, and-intro, all-below-at, or-left, or-right, some-below-at, true-false}
+use Rattle.sequences.proofs.Range.{sum-extensional, all-below-at, some-below-at}
 use Rattle.sequences.proofs.Tabulate.{tabulate-elements}
 use Rattle.sequences.proofs.Starts.{length-concatenate}
 use Rattle.sequences.proofs.Ascending.{ascending-distinct, distinct-map}
@@ -22,12 +23,12 @@ use Rattle.sequences.proofs.Relations.{length-filter-tabulate, distinct-length}
 use Rattle.icosahedron.specs.Icosahedron.{faceCorner}
 use Rattle.lattice.specs.Lattice.{LatticePoint, pointAt, weightAt, latticeVertices, idOf, latticeList, latticeMesh}
 use Rattle.lattice.specs.Appearances.{OnLattice, hasCorner, hasCounted, hasCorners, bySupport, isSingle, isCorner}
-use Rattle.lattice.proofs.Corners.{Corners, corners, place-unique, CornerOf, at-0, at-1, at-2, has-corner}
+use Rattle.lattice.proofs.Corners.{DistinctCorners, corners-distinct, place-unique, CornerOf, at-0, at-1, at-2, has-corner}
 use Rattle.lattice.proofs.Keys.{weight-first, weight-second, weight-third, weight-corner}
 use Rattle.lattice.proofs.Vertices.{vertexAt, vertex-on-lattice, id-of-vertex, id-same, has-id, id-injective}
 use Rattle.lattice.proofs.Counts.{lattice-vertex-count, lattice-corner-count}
 use Rattle.lattice.proofs.Neighbours.{adjacent-to, list-member, member-list, list-ascending}
-use Rattle.lattice.proofs.Moves.{isReached, supportAt, isMove, movedPoint, Moved, adjacent-moved, moved-on-lattice, moved-point, moved-adjacent, moved-unique, moved-same}
+use Rattle.lattice.proofs.Moves.{isReached, supportAt, isMove, movedPoint, Moved, adjacent-moved, moved-on-lattice, moved-point, moved-adjacent, move-unique, moved-same}
 
 -- ---- the three places of a face
 -- the support at a place is that of the weight on the corner there
@@ -82,8 +83,8 @@ module _ (n : ℕ) (p : LatticePoint) (on : OnLattice n p) where
       go : (x y : ℕ) → Move x → Move y → targetId x ≡ targetId y → x ≡ y
       go x y mx my e =
           let same = id-injective n _ _ (target-on-lattice x mx) (target-on-lattice y my) e in
-          let u = moved-unique n p _ _ (fromCorner x) (x % 12) (fromCorner y) (y % 12) (target-moved x mx) (target-moved y my) same in
-          let place : x / 12 ≡ y / 12 = place-unique (p .face) (x / 12) (y / 12) (corners (p .face) (on .face-below)) (omega (arith, mx .below)) (omega (arith, my .below)) (u .0) in
+          let u = move-unique n p _ _ (fromCorner x) (x % 12) (fromCorner y) (y % 12) (target-moved x mx) (target-moved y my) same in
+          let place : x / 12 ≡ y / 12 = place-unique (p .face) (x / 12) (y / 12) (corners-distinct (p .face) (on .face-below)) (omega (arith, mx .below)) (omega (arith, my .below)) (u .0) in
           omega (arith, u .1)
 
   -- each move of a unit has its number
@@ -94,13 +95,13 @@ module _ (n : ℕ) (p : LatticePoint) (on : OnLattice n p) where
       to-below : to < 12
       to-below = corner-below (some-below-at _ 20 (m .reached))
         where
-          bounded : (f : ℕ) → Corners f → CornerOf f to → to < 12
+          bounded : (f : ℕ) → DistinctCorners f → CornerOf f to → to < 12
           bounded f c (at-0 e) = omega (arith, c .below-0)
           bounded f c (at-1 e) = omega (arith, c .below-1)
           bounded f c (at-2 e) = omega (arith, c .below-2)
 
           corner-below : (f : ℕ) × (f < 20) × (hasCorner f to && hasCorners f (p .face) (ltb 0 (p .a)) (ltb 0 (p .b)) (ltb 0 (n - p .a - p .b)) ≡ true) → to < 12
-          corner-below r = bounded (r .0) (corners (r .0) (r .1)) (has-corner (r .0) to (and-split _ _ (r .2) .0))
+          corner-below r = bounded (r .0) (corners-distinct (r .0) (r .1)) (has-corner (r .0) to (and-split _ _ (r .2) .0))
 
       numbered : (s : ℕ) → s < 3 → faceCorner (p .face) s ≡ from → (move : ℕ) × List·Memᴰ move moves × (fromCorner move ≡ from) × (move % 12 ≡ to)
       numbered s lt e =

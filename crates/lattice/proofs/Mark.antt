@@ -10,7 +10,7 @@ use Rattle.refusal.proofs.Rows.{answers-relate}
 use Rattle.mesh.specs.Mesh.{Mesh, meshOf}
 use Rattle.mesh.specs.Mark.{listsAscend, Truthful}
 use Rattle.mesh.proofs.Mark.{lists-ascend, mark-truthful}
-use Rattle.lattice.specs.Lattice.{latticeList, latticeMesh, LatticeSlices, LatticeOutcome, filled, geometryRows, latticeGeometry}
+use Rattle.lattice.specs.Lattice.{latticeList, latticeMesh, LatticeSlices, LatticeOutcome, filledLattice, geometryRows, latticeGeometry}
 use Rattle.lattice.proofs.Neighbours.{mesh-list, list-ascending}
 
 pub lattice-lists-ascend : (n : ℕ) → listsAscend (latticeMesh n) ≡ true
@@ -26,8 +26,8 @@ withoutSurplus n slices =
     let mesh = latticeMesh n in
     meshOf (take (length (mesh .positions)) (slices .positions)) (take (length (mesh .starts)) (slices .starts)) (take (length (mesh .entries)) (slices .entries))
 
-written : (n : ℕ) (lent : LatticeSlices) → withoutSurplus n (filled n lent) ≡ latticeMesh n
-unfolding withoutSurplus filled
+written : (n : ℕ) (lent : LatticeSlices) → withoutSurplus n (filledLattice n lent) ≡ latticeMesh n
+unfolding withoutSurplus filledLattice
 written n lent =
     let mesh = latticeMesh n in
     rw (take-overwrite (mesh .positions) (lent .positions) (length (mesh .positions)) refl, take-overwrite (mesh .starts) (lent .starts) (length (mesh .starts)) refl, take-overwrite (mesh .entries) (lent .entries) (length (mesh .entries)) refl)
@@ -35,7 +35,7 @@ written n lent =
 
 -- The slices as they were lent where the call was refused, and what it wrote where it was accepted.
 pub meshLeft : ℕ → LatticeOutcome → Mesh
-meshLeft n o = answer (o .verdict) (λ reason. meshIn (o .slices)) (withoutSurplus n (o .slices))
+meshLeft n o = answer (o .answered) (λ reason. meshIn (o .slices)) (withoutSurplus n (o .slices))
 
 pub lattice-truthful : (n : ℕ) (lent : LatticeSlices) (mark : Bool) → Truthful (meshIn lent) mark → Truthful (meshLeft n (latticeGeometry n lent mark)) (latticeGeometry n lent mark .mark)
 unfolding latticeGeometry meshLeft
@@ -44,7 +44,7 @@ lattice-truthful n lent mark before =
 
 -- "no other outcome depends on it"
 pub lattice-same : (n : ℕ) (lent : LatticeSlices) (mark other : Bool)
-    → (latticeGeometry n lent mark .verdict ≡ latticeGeometry n lent other .verdict) × (latticeGeometry n lent mark .slices ≡ latticeGeometry n lent other .slices)
+    → (latticeGeometry n lent mark .answered ≡ latticeGeometry n lent other .answered) × (latticeGeometry n lent mark .slices ≡ latticeGeometry n lent other .slices)
 unfolding latticeGeometry
 lattice-same n lent mark other =
-    answers-relate (λ (o₁ o₂ : LatticeOutcome). (o₁ .verdict ≡ o₂ .verdict) × (o₁ .slices ≡ o₂ .slices)) (geometryRows n lent) _ _ _ _ (λ reason. (refl, refl)) (refl, refl)
+    answers-relate (λ (o₁ o₂ : LatticeOutcome). (o₁ .answered ≡ o₂ .answered) × (o₁ .slices ≡ o₂ .slices)) (geometryRows n lent) _ _ _ _ (λ reason. (refl, refl)) (refl, refl)

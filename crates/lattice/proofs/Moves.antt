@@ -5,14 +5,15 @@ use mathlib.Core.Path.{_≡_, refl, sym, ap, subst, _∙_}
 use mathlib.Core.Logic.{_⊎_, inl, inr, _≢_}
 use mathlib.Core.Bool.{Bool, true, false, not, _&&_, cond}
 use lib.Dec.{eqb}
+use Rattle.booleans.proofs.Booleans.{and-split, and-intro}
 use Rattle.sequences.specs.Range.{someBelow}
-use Rattle.sequences.specs.Appearance.{firstBelow}
-use Rattle.sequences.proofs.Range.{and-split, and-intro, some-below-intro, equal-or-not}
-use Rattle.sequences.proofs.Appearance.{first-found}
+use Rattle.sequences.specs.Search.{firstBelow}
+use Rattle.sequences.proofs.Range.{some-below-intro, equal-or-not}
+use Rattle.sequences.proofs.Search.{first-found}
 use Rattle.icosahedron.specs.Icosahedron.{faceCorner}
 use Rattle.lattice.specs.Lattice.{LatticePoint, pointAt, weightAt, weightOn}
 use Rattle.lattice.specs.Appearances.{OnLattice, hasCorner, hasCorners, liesOn, bySupport, pointWith}
-use Rattle.lattice.proofs.Corners.{Corners, corners, CornerOf, at-0, at-1, at-2, weight-on-own, weight-on-other, weight-on-face, has-corner, corner-has, corner-or-not}
+use Rattle.lattice.proofs.Corners.{DistinctCorners, corners-distinct, CornerOf, at-0, at-1, at-2, weight-on-own, weight-on-other, weight-on-face, has-corner, corner-has, corner-or-not}
 use Rattle.lattice.proofs.Keys.{SameWeights, weight-first, weight-second, weight-third, point-with-on-lattice, point-with-weights, LiesOn, lies-on, face-weights-sum, weight-off-face, appearance-on-lattice, appearance-weights, same-weights-lies-on}
 use Rattle.lattice.proofs.Neighbours.{Step, b-to-a, c-to-a, c-to-b, a-to-b, a-to-c, b-to-c, Adjacent}
 
@@ -73,7 +74,7 @@ step-move n face a b a₁ b₁ on on₁ (b-to-a e d) = record {
   from = faceCorner face 1;
   to = faceCorner face 0;
   has-weight = rw (weight-second n (pointAt face a b) on) (omega (arith, on .weights-within, on₁ .weights-within));
-  differ = λ z. corners face (on .face-below) .differ-01 (sym z);
+  differ = λ z. corners-distinct face (on .face-below) .differ-01 (sym z);
   is-corner = at-0 refl;
   weights = λ k.
       omega (
@@ -87,7 +88,7 @@ step-move n face a b a₁ b₁ on on₁ (c-to-a e d) = record {
   from = faceCorner face 2;
   to = faceCorner face 0;
   has-weight = rw (weight-third n (pointAt face a b) on) (omega (arith, on .weights-within, on₁ .weights-within));
-  differ = λ z. corners face (on .face-below) .differ-02 (sym z);
+  differ = λ z. corners-distinct face (on .face-below) .differ-02 (sym z);
   is-corner = at-0 refl;
   weights = λ k.
       omega (
@@ -101,7 +102,7 @@ step-move n face a b a₁ b₁ on on₁ (c-to-b e d) = record {
   from = faceCorner face 2;
   to = faceCorner face 1;
   has-weight = rw (weight-third n (pointAt face a b) on) (omega (arith, on .weights-within, on₁ .weights-within));
-  differ = λ z. corners face (on .face-below) .differ-12 (sym z);
+  differ = λ z. corners-distinct face (on .face-below) .differ-12 (sym z);
   is-corner = at-1 refl;
   weights = λ k.
       omega (
@@ -115,7 +116,7 @@ step-move n face a b a₁ b₁ on on₁ (a-to-b e d) = record {
   from = faceCorner face 0;
   to = faceCorner face 1;
   has-weight = rw (weight-first n (pointAt face a b) on) (omega (arith, on .weights-within, on₁ .weights-within));
-  differ = corners face (on .face-below) .differ-01;
+  differ = corners-distinct face (on .face-below) .differ-01;
   is-corner = at-1 refl;
   weights = λ k.
       omega (
@@ -129,7 +130,7 @@ step-move n face a b a₁ b₁ on on₁ (a-to-c e d) = record {
   from = faceCorner face 0;
   to = faceCorner face 2;
   has-weight = rw (weight-first n (pointAt face a b) on) (omega (arith, on .weights-within, on₁ .weights-within));
-  differ = corners face (on .face-below) .differ-02;
+  differ = corners-distinct face (on .face-below) .differ-02;
   is-corner = at-2 refl;
   weights = λ k.
       omega (
@@ -143,7 +144,7 @@ step-move n face a b a₁ b₁ on on₁ (b-to-c e d) = record {
   from = faceCorner face 1;
   to = faceCorner face 2;
   has-weight = rw (weight-second n (pointAt face a b) on) (omega (arith, on .weights-within, on₁ .weights-within));
-  differ = corners face (on .face-below) .differ-12;
+  differ = corners-distinct face (on .face-below) .differ-12;
   is-corner = at-2 refl;
   weights = λ k.
       omega (
@@ -172,7 +173,7 @@ adjacent-moved n p q on t =
     )
 
 -- ---- from a move to a step
-module _ (face from to : ℕ) (c : Corners face) (w w₁ : ℕ → ℕ) (moved : (k : ℕ) → w₁ k + weightOn from 1 k ≡ w k + weightOn to 1 k) (differ : from ≢ to) where
+module _ (face from to : ℕ) (c : DistinctCorners face) (w w₁ : ℕ → ℕ) (moved : (k : ℕ) → w₁ k + weightOn from 1 k ≡ w k + weightOn to 1 k) (differ : from ≢ to) where
   move-step : CornerOf face from → CornerOf face to → Step (w (faceCorner face 0)) (w (faceCorner face 1)) (w₁ (faceCorner face 0)) (w₁ (faceCorner face 1))
   move-step (at-0 e) (at-0 d) = absurd (differ (sym e ∙ d))
   move-step (at-0 e) (at-1 d) =
@@ -299,14 +300,14 @@ module _ (n : ℕ) (p : LatticePoint) (from to : ℕ) (on : OnLattice n p) (has-
     b₁ = movedWeight (weightAt n p) from to (faceCorner face-of-move 1);
     from-on-lattice = appearance-on-lattice n face-of-move p on (face-found .0) face-lies;
     to-on-lattice = moved-on-lattice;
-    step = move-step face-of-move from to (corners face-of-move (face-found .0)) (weightAt n p) (movedWeight (weightAt n p) from to) moved-weight differ from-corner to-corner;
+    step = move-step face-of-move from to (corners-distinct face-of-move (face-found .0)) (weightAt n p) (movedWeight (weightAt n p) from to) moved-weight differ from-corner to-corner;
     from-same = appearance-weights n face-of-move p on (face-found .0) face-lies;
     to-same = λ k. refl;
   }
 
 -- ---- a move is known by where it leads
-pub moved-unique : (n : ℕ) (p q q₁ : LatticePoint) (from to from₁ to₁ : ℕ) → Moved n p q from to → Moved n p q₁ from₁ to₁ → SameWeights n q q₁ → (from ≡ from₁) × (to ≡ to₁)
-moved-unique n p q q₁ from to from₁ to₁ m m₁ same = (sym (from-same (equal-or-not from₁ from)), sym (to-same (equal-or-not to₁ to)))
+pub move-unique : (n : ℕ) (p q q₁ : LatticePoint) (from to from₁ to₁ : ℕ) → Moved n p q from to → Moved n p q₁ from₁ to₁ → SameWeights n q q₁ → (from ≡ from₁) × (to ≡ to₁)
+move-unique n p q q₁ from to from₁ to₁ m m₁ same = (sym (from-same (equal-or-not from₁ from)), sym (to-same (equal-or-not to₁ to)))
   where
     from-same : (from₁ ≡ from) ⊎ (from₁ ≢ from) → from₁ ≡ from
     from-same (inl e) = e

@@ -11,10 +11,11 @@ use mathlib.Core.List.{List}
 use lib.ListN.{length, getD, take}
 use lib.Seq.{getD-take}
 use borrow.Author.Tests.{lt-ltb, le-ltb, eq-eqb, ne-eqb}
+use Rattle.booleans.proofs.Booleans.{true-or-false}
 use Rattle.sequences.specs.Starts.{startOf}
 use Rattle.sequences.proofs.Tabulate.{length-tabulate}
 use Rattle.sequences.proofs.Starts.{start-suc, start-zero, length-concatenate}
-use Rattle.sequences.proofs.Range.{true-or-false, last-or-below, below-or-from, equal-or-not}
+use Rattle.sequences.proofs.Range.{last-or-below, below-or-from, equal-or-not}
 use Rattle.icosahedron.specs.Icosahedron.{faceCorner}
 use Rattle.icosahedron.specs.Slots.{slotsPerFace}
 use Rattle.icosahedron.proofs.Slots.{slots-per-face-le}
@@ -22,7 +23,7 @@ use Rattle.lattice.specs.Lattice.{LatticePoint, pointAt, latticePoints, 
 use Rattle.lattice.specs.Appearances.{OnLattice, isFirstAppearance}
 use Rattle.lattice.specs.Shared.{cornerAt, edgeAt, firstCorner, otherEdge, firstsBefore}
 use Rattle.lattice.specs.Naming.{placeOf, pointAfter, cornerNaming, edgeNaming, naming}
-use Rattle.lattice.proofs.Corners.{corners, place-unique}
+use Rattle.lattice.proofs.Corners.{corners-distinct, place-unique}
 use Rattle.lattice.proofs.Points.{rowPoints}
 use Rattle.lattice.proofs.Vertices.{vertexAt, id-below, id-same, earlier-appearance}
 use Rattle.lattice.proofs.PointKinds.{corner-on-lattice, edge-on-lattice}
@@ -178,7 +179,7 @@ corner-names n f s le fb sb = go (equal-or-not (firstCorner f s / 3) f)
 
     go : (firstCorner f s / 3 ≡ f) ⊎ (firstCorner f s / 3 ≢ f) → Names n (cornerAt n (firstCorner f s / 3) (firstCorner f s % 3)) (cornerAt n f s)
     go (inl e) =
-        let place : firstCorner f s % 3 ≡ s = place-unique f (firstCorner f s % 3) s (corners f fb) (omega arith) sb (ap (λ (g : ℕ). faceCorner g (firstCorner f s % 3)) (sym e) ∙ r .same-corner) in
+        let place : firstCorner f s % 3 ≡ s = place-unique f (firstCorner f s % 3) s (corners-distinct f fb) (omega arith) sb (ap (λ (g : ℕ). faceCorner g (firstCorner f s % 3)) (sym e) ∙ r .same-corner) in
         names-own n _ _ (corner-on-lattice n f fb s) (rw (e, place) refl) (r .new-where-first n le ∙ eq-eqb _ _ e)
     go (inr d) =
         names-earlier n _ _ (corner-on-lattice n (firstCorner f s / 3) (omega (arith, r .face-at-most)) (firstCorner f s % 3)) (sym (corner-id n f s le fb sb))

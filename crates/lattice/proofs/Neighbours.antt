@@ -4,20 +4,21 @@ use native.Mathlib.Omega.{arith}
 use mathlib.Core.Path.{_≡_, refl, sym, ap, _∙_}
 use mathlib.Core.Logic.{_⊎_, inl, inr}
 use mathlib.Core.Bool.{true, _&&_, _||_}
-use mathlib.Core.List.{List, List·Memᴰ}
+use mathlib.Core.List.{List·Memᴰ}
 use lib.Dec.{eqb}
 use lib.ListN.{length, getD}
 use lib.Ieee.{nan}
 use borrow.Author.Tests.{eqb-true, eq-eqb}
+use Rattle.booleans.proofs.Booleans.{and-split, and-intro, or-split, or-left, or-right}
 use Rattle.sequences.specs.Ascending.{Ascending}
-use Rattle.sequences.proofs.Range.{and-split, and-intro, or-split, or-left, or-right, some-below-at, some-below-intro}
+use Rattle.sequences.proofs.Range.{some-below-at, some-below-intro}
 use Rattle.sequences.proofs.Starts.{concatenate-even-length, concatenate-even-at, concatenate-part}
-use Rattle.sequences.proofs.Ascending.{ascending-distinct, ascending-unique}
+use Rattle.sequences.proofs.Ascending.{ascending-distinct}
 use Rattle.sequences.proofs.Filter.{filter-range-member, member-filter-range, filter-range-ascending}
-use Rattle.vector.specs.Vector.{vector}
+use Rattle.vector.specs.Vector.{vector, coordinates}
 use Rattle.mesh.specs.Mesh.{count, positionOf, neighbours}
 use Rattle.mesh.specs.Adjacency.{Mutual, NoOwnVertex, NoRepeat}
-use Rattle.lattice.specs.Lattice.{LatticePoint, pointAt, sameVertex, weightAt, latticeVertices, idOf, pointPosition, coordinates, isStepUp, isStep, areNeighbours, latticeList, latticeMesh}
+use Rattle.lattice.specs.Lattice.{LatticePoint, pointAt, sameVertex, weightAt, latticeVertices, idOf, pointPosition, isStepUp, isStep, areNeighbours, latticeList, latticeMesh}
 use Rattle.lattice.specs.Appearances.{OnLattice}
 use Rattle.lattice.proofs.Keys.{SameWeights, same-vertex-weights, weights-same-vertex, same-face-point}
 use Rattle.lattice.proofs.Vertices.{vertexAt, vertex-on-lattice, id-of-vertex, id-same, has-id}
@@ -262,12 +263,6 @@ by-list-member n v u t =
       from-same = λ k. sym (from .same-weights k) ∙ ap (λ (w : ℕ). weightAt n (vertexAt n w) k) (t .from-id);
       to-same = λ k. sym (to .same-weights k) ∙ ap (λ (w : ℕ). weightAt n (vertexAt n w) k) (t .to-id);
     })
-
--- an ascending list with these members is the list
-pub lattice-list-unique : (n v : ℕ) (l : List ℕ) → v < length (latticeVertices n) → Ascending l → ((u : ℕ) → List·Memᴰ u l → ListedBy n v u) → ((u : ℕ) → ListedBy n v u → List·Memᴰ u l) → l ≡ latticeList n v
-lattice-list-unique n v l lt ascends sound complete =
-    ascending-unique l (latticeList n v) ascends (list-ascending n v)
-    (record { forth = λ u m. by-list-member n v u (sound u m); back = λ u m. complete u (list-member-by n v u lt m) })
 
 -- ---- the mesh has them
 pub length-positions : (n : ℕ) → length (latticeMesh n .positions) ≡ length (latticeVertices n) * 3

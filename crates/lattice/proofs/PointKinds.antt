@@ -3,18 +3,15 @@ use Prim.Native.Nat.{ℕ, zero, suc, _+_, _-_, _≤_, _<_}
 use native.Mathlib.Nat.{eq-zero-or-pos}
 use native.Mathlib.Omega.{arith}
 use mathlib.Core.Path.{_≡_, refl, sym, ap, _∙_}
-use mathlib.Core.Logic.{_⊎_, inl, inr, _≢_, _↔_}
-use mathlib.Core.Bool.{Bool, true, not, _||_}
-use lib.Dec.{eqb}
-use borrow.Author.Tests.{lt-ltb, eqb-true}
-use Rattle.sequences.specs.Range.{allBelow}
-use Rattle.sequences.proofs.Range.{all-below-at, equal-or-not}
+use mathlib.Core.Logic.{_⊎_, inl, inr}
+use mathlib.Core.Bool.{Bool, true}
+use borrow.Author.Tests.{lt-ltb}
 use Rattle.icosahedron.specs.Icosahedron.{faceCorner}
-use Rattle.lattice.specs.Lattice.{LatticePoint, pointAt, weightAt, weightOn, sameVertex}
-use Rattle.lattice.specs.Appearances.{OnLattice, hasCorner, hasCounted, hasCorners, bySupport, liesOn}
+use Rattle.lattice.specs.Lattice.{LatticePoint, pointAt, weightAt, weightOn}
+use Rattle.lattice.specs.Appearances.{OnLattice, bySupport}
 use Rattle.lattice.specs.Shared.{nextPlace, cornerAt, edgeAt}
-use Rattle.lattice.proofs.Corners.{corners, place-unique, weight-on-own, weight-on-other, weight-on-none}
-use Rattle.lattice.proofs.Keys.{SameWeights, same-vertex-weights, weights-same-vertex, same-face-point, same-weights-lies-on}
+use Rattle.lattice.proofs.Corners.{weight-on-none}
+use Rattle.lattice.proofs.Keys.{SameWeights}
 
 -- ---- each point is of one of the three kinds
 pub data Kind (n : ℕ) (p : LatticePoint) : Type 0 where
@@ -40,18 +37,6 @@ kind n p le on = go (eq-zero-or-pos (p .a)) (eq-zero-or-pos (p .b)) (eq-zero-or-
     go (inr a) (inr b) (inr c) = inside a b (omega arith)
 
 -- ---- places
-next-below : (place : ℕ) → nextPlace place < 3
-unfolding nextPlace
-next-below zero = omega arith
-next-below (suc zero) = omega arith
-next-below (suc (suc place)) = omega arith
-
-next-differs : (place : ℕ) → nextPlace place ≢ nextPlace (nextPlace place)
-unfolding nextPlace
-next-differs zero e = omega arith
-next-differs (suc zero) e = omega arith
-next-differs (suc (suc place)) e = omega arith
-
 -- ---- points at corners and on edges, and their weights
 module _ (n face : ℕ) (below : face < 20) where
   pub corner-on-lattice : (place : ℕ) → OnLattice n (cornerAt n face place)
@@ -89,56 +74,10 @@ module _ (n f s g t : ℕ) (positive : 1 ≤ n) (fb : f < 20) (gb : g < 20) (sb 
   pub corner-same-weights : faceCorner f s ≡ faceCorner g t → SameWeights n (cornerAt n f s) (cornerAt n g t)
   corner-same-weights e k = corner-weights n f fb s k sb ∙ ap (λ (c : ℕ). weightOn c n k) e ∙ sym (corner-weights n g gb t k tb)
 
-  pub same-vertex-corner : sameVertex n (cornerAt n f s) (cornerAt n g t) ≡ true ↔ (faceCorner f s ≡ faceCorner g t)
-  same-vertex-corner = (
-    λ h. go (same-vertex-weights n _ _ (corner-on-lattice n f fb s) (corner-on-lattice n g gb t) h (faceCorner f s)) (equal-or-not (faceCorner g t) (faceCorner f s)),
-    λ e. weights-same-vertex n _ _ (corner-same-weights e),
-  )
-    where
-      go : weightAt n (cornerAt n f s) (faceCorner f s) ≡ weightAt n (cornerAt n g t) (faceCorner f s) → (faceCorner g t ≡ faceCorner f s) ⊎ (faceCorner g t ≢ faceCorner f s) → faceCorner f s ≡ faceCorner g t
-      go h (inl e) = sym e
-      go h (inr d) =
-          absurd
-          (let l = corner-weights n f fb s (faceCorner f s) sb in
-          let r = corner-weights n g gb t (faceCorner f s) tb in
-          let own = weight-on-own (faceCorner f s) n (faceCorner f s) refl in
-          let other = weight-on-other (faceCorner g t) n (faceCorner f s) d in let z : ⊥ = omega arith in z)
-
 -- two different corners with weights, and two others: the same weights, in one order or the other
 pub data SameEnds (n x y w x₁ y₁ w₁ : ℕ) : Type 0 where
   along : x ≡ x₁ → y ≡ y₁ → w ≡ w₁ → SameEnds n x y w x₁ y₁ w₁
   against : x ≡ y₁ → y ≡ x₁ → w + w₁ ≡ n → SameEnds n x y w x₁ y₁ w₁
-
-module _ (n x y w x₁ y₁ w₁ : ℕ) (le : w < n) (le₁ : w₁ < n) (pos : 0 < w) (differ : x ≢ y) (differ₁ : x₁ ≢ y₁)
-    (same : (k : ℕ) → weightOn x w k + weightOn y (n - w) k ≡ weightOn x₁ w₁ k + weightOn y₁ (n - w₁) k) where
-  ends-same : SameEnds n x y w x₁ y₁ w₁
-  ends-same = go (equal-or-not x₁ x) (equal-or-not y₁ x) (equal-or-not x₁ y) (equal-or-not y₁ y)
-    where
-      at-x : weightOn x w x + weightOn y (n - w) x ≡ w
-      at-x = let own = weight-on-own x w x refl in let other = weight-on-other y (n - w) x (λ e. differ (sym e)) in omega arith
-
-      at-y : weightOn x w y + weightOn y (n - w) y ≡ n - w
-      at-y = let other = weight-on-other x w y differ in let own = weight-on-own y (n - w) y refl in omega arith
-
-      go : (x₁ ≡ x) ⊎ (x₁ ≢ x) → (y₁ ≡ x) ⊎ (y₁ ≢ x) → (x₁ ≡ y) ⊎ (x₁ ≢ y) → (y₁ ≡ y) ⊎ (y₁ ≢ y) → SameEnds n x y w x₁ y₁ w₁
-      go (inl e) (inl d) u v = absurd (differ₁ (e ∙ sym d))
-      go (inr e) (inr d) u v =
-          absurd
-          (let l = weight-on-other x₁ w₁ x e in let r = weight-on-other y₁ (n - w₁) x d in let s = same x in let a = at-x in let z : ⊥ = omega arith in z)
-      go (inl e) (inr d) (inl u) v = absurd (differ (sym e ∙ u))
-      go (inl e) (inr d) (inr u) (inr v) =
-          absurd
-          (let l = weight-on-other x₁ w₁ y u in let r = weight-on-other y₁ (n - w₁) y v in let s = same y in let a = at-y in let z : ⊥ = omega arith in z)
-      go (inl e) (inr d) (inr u) (inl v) =
-          along (sym e) (sym v)
-          (let l = weight-on-own x₁ w₁ x e in let r = weight-on-other y₁ (n - w₁) x d in let s = same x in let a = at-x in omega arith)
-      go (inr e) (inl d) u (inl v) = absurd (differ (sym d ∙ v))
-      go (inr e) (inl d) (inr u) (inr v) =
-          absurd
-          (let l = weight-on-other x₁ w₁ y u in let r = weight-on-other y₁ (n - w₁) y v in let s = same y in let a = at-y in let z : ⊥ = omega arith in z)
-      go (inr e) (inl d) (inl u) (inr v) =
-          against (sym d) (sym u)
-          (let l = weight-on-other x₁ w₁ x e in let r = weight-on-own y₁ (n - w₁) x d in let s = same x in let a = at-x in omega arith)
 
 -- edges: the same two corners, with the same weights
 module _ (n f s w g t w₁ : ℕ) (fb : f < 20) (gb : g < 20) where
@@ -155,42 +94,7 @@ module _ (n f s w g t w₁ : ℕ) (fb : f < 20) (gb : g < 20) where
       go (along x y e) = rw (x, y, e) refl
       go (against x y e) = rw (x, y, let z : n - w ≡ w₁ = omega arith in z, let z : n - w₁ ≡ w = omega arith in z) (omega arith)
 
-  pub same-vertex-edge : 0 < w → w < n → w₁ < n → sameVertex n (edgeAt n f s w) (edgeAt n g t w₁) ≡ true ↔ EndsOf
-  same-vertex-edge pos lt lt₁ = (
-    λ h.
-        ends-same n _ _ w _ _ w₁ lt lt₁ pos
-        (λ e. next-differs s (place-unique f _ _ (corners f fb) (next-below s) (next-below (nextPlace s)) e))
-        (λ e. next-differs t (place-unique g _ _ (corners g gb) (next-below t) (next-below (nextPlace t)) e))
-        (λ k.
-        sym (edge-weights n f fb s w k (omega arith))
-        ∙ same-vertex-weights n _ _ (edge-on-lattice n f fb s w (omega arith)) (edge-on-lattice n g gb t w₁ (omega arith)) h k
-        ∙ edge-weights n g gb t w₁ k (omega arith)),
-    λ ends. weights-same-vertex n _ _ (edge-same-weights (omega arith) (omega arith) ends),
-  )
-
 -- ---- inside a face
--- only the face itself has its three corners
-facesApart : ℕ → Bool
-facesApart f = allBelow (λ g. not (hasCorners g f true true true) || eqb g f) 20
-
-all-faces-apart : allBelow facesApart 20 ≡ true
-unfolding allBelow facesApart hasCorners hasCounted hasCorner faceCorner
-all-faces-apart = refl
-
 -- a test by the support, at a point inside
 pub interior-support : (test : ℕ → Bool → Bool → Bool → Bool) (n : ℕ) (p : LatticePoint) → 0 < p .a → 0 < p .b → p .a + p .b < n → bySupport test n p ≡ test (p .face) true true true
 interior-support test n p a b c = rw (lt-ltb 0 (p .a) a, lt-ltb 0 (p .b) b, lt-ltb 0 (n - p .a - p .b) (omega arith)) refl
-
--- inside: the same point
-pub same-vertex-interior : (n : ℕ) (p q : LatticePoint) → OnLattice n p → OnLattice n q → 0 < p .a → 0 < p .b → p .a + p .b < n → sameVertex n p q ≡ true ↔ (p ≡ q)
-unfolding facesApart liesOn
-same-vertex-interior n p q onp onq a b c = (
-  λ h.
-      let same = same-vertex-weights n p q onp onq h in
-      let has : hasCorners (q .face) (p .face) true true true ≡ true =
-      sym (interior-support (hasCorners (q .face)) n p a b c) ∙ same-weights-lies-on n p q onp onq same in
-      let tested : not (hasCorners (q .face) (p .face) true true true) || eqb (q .face) (p .face) ≡ true =
-      all-below-at _ 20 (q .face) (all-below-at facesApart 20 (p .face) all-faces-apart (onp .face-below)) (onq .face-below) in
-      same-face-point n p q onp onq (sym (eqb-true _ _ (rw has at tested))) same,
-  λ e. weights-same-vertex n p q (λ k. ap (λ (r : LatticePoint). weightAt n r k) e),
-)

@@ -12,7 +12,7 @@ use lib.Ieee.{Float, fin, binary64, add, mul, div, neg, le, round}
 use lib.Ieee.Exact.{HasValue}
 use lib.Ieee.Order.{le-of-values}
 use lib.Ieee.Scale.{finite, round-same}
-use Rattle.sequences.proofs.Range.{and-split, or-split}
+use Rattle.booleans.proofs.Booleans.{and-split, or-split}
 use Rattle.binary64.specs.Absolute.{abs}
 use Rattle.binary64.specs.Convert.{whole}
 use Rattle.binary64.proofs.Absolute.{abs-within, abs-from-above, abs-from-below}

@@ -5,12 +5,10 @@ use mathlib.Core.Path.{_≡_, refl, sym, _∙_}
 use mathlib.Core.Logic.{_⊎_, inl, inr, _≢_}
 use mathlib.Core.Bool.{Bool, true, false, not, _&&_, _||_, cond}
 use lib.Dec.{leb, ltb, eqb}
-use lib.ListN.{length}
 use borrow.Author.Tests.{ltb-true, lt-ltb, le-ltb, leb-true, eqb-true, eqb-false, not-true}
+use Rattle.booleans.proofs.Booleans.{and-split, or-split, true-false}
 use Rattle.sequences.specs.Range.{allBelow, someBelow}
-use Rattle.sequences.specs.Tabulate.{tabulate}
-use Rattle.sequences.specs.Filter.{filter, filterRange}
-use Rattle.sequences.proofs.Range.{and-split, all-below-at, or-split, true-false}
+use Rattle.sequences.proofs.Range.{all-below-at}
 use Rattle.icosahedron.specs.Icosahedron.{faceCorner}
 use Rattle.lattice.specs.Lattice.{LatticePoint, idOf}
 use Rattle.lattice.specs.Appearances.{hasCorner, hasCounted, hasCorners, bySupport, liesOn, isNew, isFirstAppearance}
@@ -66,33 +64,6 @@ unfolding isFirstAppearance
 interior-first n p below a b c = interior-support isNew n p a b c ∙ all-below-at (λ f. isNew f true true true) 20 (p .face) inside-tests below
 
 -- ---- corners: each in five faces
-inFive : ℕ → Bool
-inFive corner = eqb (length (filterRange (λ f. hasCorner f corner) 20)) 5
-
-all-in-five : allBelow inFive 12 ≡ true
-unfolding allBelow inFive filterRange filter tabulate hasCorner faceCorner
-all-in-five = refl
-
-pub corner-in-five : (corner : ℕ) → corner < 12 → length (filterRange (λ f. hasCorner f corner) 20) ≡ 5
-unfolding inFive
-corner-in-five corner lt = eqb-true _ _ (all-below-at inFive 12 corner all-in-five lt)
-
-and-true : (b : Bool) → b && true ≡ b
-and-true true = refl
-and-true false = refl
-
-corner-alone : (f s g : ℕ) → s < 3 → atCorner (hasCorners g) s f ≡ hasCorner g (faceCorner f s)
-unfolding atCorner hasCorners hasCounted
-corner-alone f zero g sb = and-true (hasCorner g (faceCorner f 0))
-corner-alone f (suc zero) g sb = and-true (hasCorner g (faceCorner f 1))
-corner-alone f (suc (suc zero)) g sb = refl
-corner-alone f (suc (suc (suc s))) g sb = absurd (let z : ⊥ = omega arith in z)
-
--- the faces that a corner lies on are those that have it
-pub corner-faces : (n f s g : ℕ) → 1 ≤ n → s < 3 → liesOn n g (cornerAt n f s) ≡ hasCorner g (faceCorner f s)
-unfolding liesOn
-corner-faces n f s g le sb = corner-support (hasCorners g) n f s le ∙ corner-alone f s g sb
-
 -- ---- corners: the first face that has one
 cornerTest : ℕ → ℕ → Bool
 cornerTest s f =

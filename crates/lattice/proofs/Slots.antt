@@ -6,12 +6,12 @@ use mathlib.Core.Path.{_≡_, sym, ap, _∙_}
 use mathlib.Core.List.{List}
 use lib.ListN.{length, getD, length-map}
 use Rattle.sequences.specs.Starts.{startOf}
-use Rattle.sequences.proofs.Tabulate.{length-tabulate, tabulate-at, getD-map, getD-member}
-use Rattle.sequences.proofs.Starts.{concatenate-at, length-concatenate, start-suc, start-zero, start-monotone, concatenate-even-length, concatenate-even-at}
+use Rattle.sequences.proofs.Tabulate.{length-tabulate, tabulate-at, getD-map}
+use Rattle.sequences.proofs.Starts.{concatenate-at, length-concatenate, start-suc, start-zero, concatenate-even-length, concatenate-even-at}
 use Rattle.icosahedron.specs.Slots.{slotOf, slotsPerFace}
-use Rattle.lattice.specs.Lattice.{LatticePoint, pointAt, latticePoints, latticeVertices, idOf, idTable}
-use Rattle.lattice.proofs.Points.{rowPoints, facePoints, points-by-face, point-on-lattice}
-use Rattle.lattice.proofs.Vertices.{id-below}
+use Rattle.icosahedron.proofs.Slots.{slot-below}
+use Rattle.lattice.specs.Lattice.{LatticePoint, pointAt, latticePoints, idOf, idTable}
+use Rattle.lattice.proofs.Points.{rowPoints, facePoints, points-by-face}
 
 -- ---- where a row starts: a(n + 1) − a(a − 1)/2
 row-step : (s d a n : ℕ) → 2 * s + a * (a - 1) ≡ 2 * (a * (n + 1)) → d + a ≡ n → 2 * (s + suc d) + suc a * (suc a - 1) ≡ 2 * (suc a * (n + 1))
@@ -52,15 +52,6 @@ module _ (n face a b : ℕ) (within : a + b ≤ n) where
       ∙ concatenate-at (suc n) (rowPoints n face) a b d (omega arith) (rw (length-tabulate (suc (n - a)) (λ b. pointAt face a b)) (omega arith))
       ∙ tabulate-at (suc (n - a)) (λ b. pointAt face a b) b d (omega arith)
 
-  pub slot-below : slotOf n a b < slotsPerFace n
-  slot-below =
-      let e = row-start n face a b (omega arith) in
-      let next = start-suc (rowPoints n face) a in
-      let row = length-tabulate (suc (n - a)) (λ b. pointAt face a b) in
-      let rows = start-monotone (rowPoints n face) (suc a) (suc n) (omega arith) in
-      let all = sym (length-concatenate (suc n) (rowPoints n face)) ∙ length-face-points n face in
-      omega arith
-
 -- ---- all points: "one face behind another"
 pub length-points : (n : ℕ) → length (latticePoints n) ≡ 20 * slotsPerFace n
 length-points n = ap length (points-by-face n) ∙ concatenate-even-length 20 (slotsPerFace n) (facePoints n) (λ face lt. length-face-points n face)
@@ -69,13 +60,13 @@ length-points n = ap length (points-by-face n) ∙ concatenate-even-length 20 (s
 pub point-place : (n face a b : ℕ) (d : LatticePoint) → face < 20 → a + b ≤ n → getD (latticePoints n) (face * slotsPerFace n + slotOf n a b) d ≡ pointAt face a b
 point-place n face a b d lt within =
     ap (λ (l : List LatticePoint). getD l (face * slotsPerFace n + slotOf n a b) d) (points-by-face n)
-    ∙ concatenate-even-at 20 (slotsPerFace n) (facePoints n) (λ face lt. length-face-points n face) face (slotOf n a b) d lt (slot-below n face a b within)
+    ∙ concatenate-even-at 20 (slotsPerFace n) (facePoints n) (λ face lt. length-face-points n face) face (slotOf n a b) d lt (slot-below n a b within)
     ∙ slot-place n face a b within d
 
 -- a face's places come before those of a later face, and all below twenty times the slots
 pub place-earlier : (n face later a b : ℕ) → face < later → a + b ≤ n → face * slotsPerFace n + slotOf n a b < later * slotsPerFace n
 place-earlier n face later a b lt within =
-    let s = slot-below n face a b within in
+    let s = slot-below n a b within in
     let m : suc face * slotsPerFace n ≤ later * slotsPerFace n = mul-le-mul-right (slotsPerFace n) lt in
     omega arith
 
@@ -90,11 +81,3 @@ unfolding idTable
 id-table-at n face a b lt within =
     getD-map (idOf n) (latticePoints n) (face * slotsPerFace n + slotOf n a b) (pointAt 0 0 0) 0 (rw (length-points n) (place-earlier n face 20 a b lt within))
     ∙ ap (idOf n) (point-place n face a b (pointAt 0 0 0) lt within)
-
--- and each of its ids is below the vertex count
-pub id-table-below : (n i : ℕ) → i < length (idTable n) → getD (idTable n) i 0 < length (latticeVertices n)
-unfolding idTable
-id-table-below n i lt =
-    let below : i < length (latticePoints n) = rw (length-map (latticePoints n) (idOf n)) at lt in
-    rw (getD-map (idOf n) (latticePoints n) i (pointAt 0 0 0) 0 below)
-    (id-below n (getD (latticePoints n) i (pointAt 0 0 0)) (point-on-lattice n _ (getD-member (latticePoints n) i (pointAt 0 0 0) below)))

@@ -78,8 +78,8 @@ pub record VerticesFilled (n : ℕ) (positions₀ : List Float) (starts₀ : Lis
   pub positions-so-far : Overwritten (latticeMesh n .positions) positions₀ positions (vertex * 3) nan
   pub starts-so-far : Overwritten (latticeMesh n .starts) starts₀ starts vertex 0
 
-pub vertices-none : {n : ℕ} {positions₀ : List Float} {starts₀ : List ℕ} → VerticesFilled n positions₀ starts₀ positions₀ starts₀ 0 0
-vertices-none {n} = record { start-is = sym (start-zero (latticeList n)); positions-so-far = overwritten-none; starts-so-far = overwritten-none }
+pub no-vertices-yet : {n : ℕ} {positions₀ : List Float} {starts₀ : List ℕ} → VerticesFilled n positions₀ starts₀ positions₀ starts₀ 0 0
+no-vertices-yet {n} = record { start-is = sym (start-zero (latticeList n)); positions-so-far = overwritten-none; starts-so-far = overwritten-none }
 
 overwritten-three : {new old now : List Float} (v : ℕ) {d x y z : Float} → suc v * 3 ≤ length old → x ≡ getD new (v * 3) d → y ≡ getD new (v * 3 + 1) d → z ≡ getD new (v * 3 + 2) d
     → Overwritten new old now (v * 3) d → Overwritten new old (set (set (set now (v * 3) x) (v * 3 + 1) y) (v * 3 + 2) z) ((v + 1) * 3) d
@@ -131,5 +131,5 @@ start-bound {n} {vertex} h lo le = let e = lattice-list-start n vertex lo le in 
 
 -- what filled starts hold at a vertex
 pub starts-read : (n : ℕ) (starts : List ℕ) (v : ℕ) → take (length (latticeMesh n .starts)) starts ≡ latticeMesh n .starts → v ≤ length (latticeVertices n) → getD starts v 0 ≡ startOf (latticeList n) v
-starts-read n starts v filled le =
-    sym (getD-take (length (latticeMesh n .starts)) starts v 0 (let z = length-mesh-starts n in omega arith)) ∙ ap (λ (l : List ℕ). getD l v 0) filled ∙ start-here n v le
+starts-read n starts v filledLattice le =
+    sym (getD-take (length (latticeMesh n .starts)) starts v 0 (let z = length-mesh-starts n in omega arith)) ∙ ap (λ (l : List ℕ). getD l v 0) filledLattice ∙ start-here n v le

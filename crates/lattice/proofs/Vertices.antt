@@ -10,15 +10,16 @@ use lib.Dec.{eqb}
 use lib.ListN.{length, getD, length-append}
 use lib.Seq.{getD-append-seam}
 use borrow.Author.Tests.{eq-eqb, ne-eqb, not-true, not-false}
+use Rattle.booleans.proofs.Booleans.{true-or-false, true-false}
 use Rattle.sequences.specs.Range.{someBelow}
 use Rattle.sequences.specs.Ascending.{Pairwise}
 use Rattle.sequences.specs.Filter.{filter}
-use Rattle.sequences.specs.Appearance.{firstBelow}
-use Rattle.sequences.proofs.Range.{true-or-false, some-below-at, true-false, below-or-from, some-below-none}
+use Rattle.sequences.specs.Search.{firstBelow}
+use Rattle.sequences.proofs.Range.{some-below-at, below-or-from, some-below-none}
 use Rattle.sequences.proofs.Tabulate.{getD-member, member-getD}
 use Rattle.sequences.proofs.Ascending.{pairwise-weaken}
 use Rattle.sequences.proofs.Filter.{filter-member, member-filter, filter-true, filter-false, filter-append, pairwise-filter}
-use Rattle.sequences.proofs.Appearance.{first-below, first-found}
+use Rattle.sequences.proofs.Search.{first-below, first-found}
 use Rattle.sequences.proofs.Relations.{pairwise-across, pairwise-right}
 use Rattle.lattice.specs.Lattice.{LatticePoint, pointAt, latticePoints, weightAt, keyOf, sameVertex, firstPlaceFrom, firstAppearances, latticeVertices, idOf}
 use Rattle.lattice.specs.Appearances.{OnLattice, liesOn, pointWith, appearanceOn, isNew, isFirstAppearance}

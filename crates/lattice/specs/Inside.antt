@@ -4,8 +4,8 @@ use mathlib.Core.Bool.{Bool, _&&_}
 use mathlib.Core.List.{List, [], _∷_}
 use lib.Dec.{ltb}
 use Rattle.icosahedron.specs.Icosahedron.{cornerPoint}
-use Rattle.lattice.specs.declared.FaceCorners.{FaceCorners}
-use Rattle.lattice.specs.declared.StepIds.{StepIds}
+use Rattle.lattice.specs.declared.vertex_positions.FaceCorners.{FaceCorners}
+use Rattle.lattice.specs.declared.neighbour_lists.StepIds.{StepIds}
 use Rattle.lattice.specs.Lattice.{LatticePoint, idOf}
 use Rattle.lattice.specs.Naming.{stepFrom}
 

@@ -1,5 +1,5 @@
 -- The lattice of frequency n (document 01, "Lattice of frequency n"). Definitions only.
-use Prim.Native.Nat.{ℕ, zero, suc, _+_, _-_, _*_}
+use Prim.Native.Nat.{ℕ, suc, _+_, _-_}
 use mathlib.Core.Bool.{Bool, true, _&&_, _||_, cond}
 use mathlib.Core.List.{List, [], _∷_, _++_, map}
 use lib.Dec.{leb, eqb}
@@ -15,9 +15,9 @@ use Rattle.refusal.specs.declared.Verdict.the-variants.{Passed, Refused}
 use Rattle.refusal.specs.Refusal.{refusal, row, answer}
 use Rattle.binary64.specs.Convert.{whole}
 use Rattle.vector.specs.declared.Vector3.{Vector3}
-use Rattle.vector.specs.Vector.{vectorSum, vectorMultiple, vectorQuotient, normalized}
+use Rattle.vector.specs.Vector.{coordinates, vectorSum, vectorMultiple, vectorQuotient, normalized}
 use Rattle.icosahedron.specs.Icosahedron.{faceCorner, cornerPoint}
-use Rattle.icosahedron.specs.Slots.{frequencyFits}
+use Rattle.icosahedron.specs.Slots.{frequencyRow}
 use Rattle.mesh.specs.Mesh.{Mesh}
 
 -- A point of a master face: a on the first corner, b on the second, n − a − b on the third.
@@ -79,9 +79,6 @@ meanPoint n p =
 unfoldable pub pointPosition : ℕ → LatticePoint → Vector3
 pointPosition n p = normalized (meanPoint n p)
 
-abbrev pub coordinates : Vector3 → List Float
-coordinates v = v .x ∷ v .y ∷ v .z ∷ []
-
 -- One more a and one less b, one more a and one less c, one more b and one less c: three of the six steps that keep a + b + c.
 unfoldable pub isStepUp : ℕ → ℕ → ℕ → ℕ → Bool
 isStepUp a b a₁ b₁ = (eqb a₁ (suc a) && eqb (suc b₁) b) || ((eqb a₁ (suc a) && eqb b₁ b) || (eqb a₁ a && eqb b₁ (suc b)))
@@ -129,28 +126,28 @@ pub record LatticeSlices : Type 0 where
   pub entries : List ℕ
   pub ids : List ℕ
 
-abbrev pub slicesOf : List Float → List ℕ → List ℕ → List ℕ → LatticeSlices
-slicesOf positions starts entries ids = record { positions = positions; starts = starts; entries = entries; ids = ids }
+abbrev pub latticeSlices : List Float → List ℕ → List ℕ → List ℕ → LatticeSlices
+latticeSlices positions starts entries ids = record { positions = positions; starts = starts; entries = entries; ids = ids }
 
 -- Row 8 refuses "any slice too short".
-unfoldable pub slicesFit : ℕ → LatticeSlices → Bool
-slicesFit n lent =
+unfoldable pub latticeSlicesFit : ℕ → LatticeSlices → Bool
+latticeSlicesFit n lent =
     let mesh = latticeMesh n in
     leb (length (mesh .positions)) (length (lent .positions)) && (leb (length (mesh .starts)) (length (lent .starts))
     && (leb (length (mesh .entries)) (length (lent .entries)) && leb (length (idTable n)) (length (lent .ids))))
 
 -- The answer, the slices at exit, and the mark that the mesh's lists ascend (W-208).
 pub record LatticeOutcome : Type 0 where
-  pub verdict : Verdict
+  pub answered : Verdict
   pub slices : LatticeSlices
   pub mark : Bool
 
-abbrev pub outcome : Verdict → List Float → List ℕ → List ℕ → Bool → List ℕ → LatticeOutcome
-outcome verdict positions starts entries mark ids = record { verdict = verdict; slices = slicesOf positions starts entries ids; mark = mark }
+abbrev pub latticeOutcome : Verdict → List Float → List ℕ → List ℕ → Bool → List ℕ → LatticeOutcome
+latticeOutcome verdict positions starts entries mark ids = record { answered = verdict; slices = latticeSlices positions starts entries ids; mark = mark }
 
 -- "surplus is untouched"
-unfoldable pub filled : ℕ → LatticeSlices → LatticeSlices
-filled n lent =
+unfoldable pub filledLattice : ℕ → LatticeSlices → LatticeSlices
+filledLattice n lent =
     let mesh = latticeMesh n in
     record {
       positions = overwrite (mesh .positions) (lent .positions);
@@ -161,10 +158,10 @@ filled n lent =
 
 -- Rows 1, 8.
 abbrev pub geometryRows : ℕ → LatticeSlices → Verdict
-geometryRows n lent = row (frequencyFits n) (refusal 1) (row (slicesFit n lent) (refusal 8) Passed)
+geometryRows n lent = frequencyRow n (row (latticeSlicesFit n lent) (refusal 8) Passed)
 
 -- "a lattice and an accepted renumbering set it" (W-208): the mark, which a refused call leaves as it leaves the slices.
 unfoldable pub latticeGeometry : ℕ → LatticeSlices → Bool → LatticeOutcome
 latticeGeometry n lent mark =
-    answer (geometryRows n lent) (λ reason. record { verdict = Refused reason; slices = lent; mark = mark })
-    (record { verdict = Passed; slices = filled n lent; mark = true })
+    answer (geometryRows n lent) (λ reason. record { answered = Refused reason; slices = lent; mark = mark })
+    (record { answered = Passed; slices = filledLattice n lent; mark = true })

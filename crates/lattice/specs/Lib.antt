@@ -4,4 +4,5 @@ pub mod Shared
 pub mod Naming
 pub mod Gathering
 pub mod Inside
+pub mod Lent
 pub mod FaceAxes

@@ -3,7 +3,7 @@ use Prim.Native.Nat.{ℕ, zero, suc, _+_, _-_, _*_, _/_, _%_}
 use mathlib.Core.Bool.{cond}
 use lib.Dec.{ltb, eqb}
 use Rattle.icosahedron.specs.Slots.{slotOf, slotsPerFace}
-use Rattle.lattice.specs.declared.FacePoint.{FacePoint}
+use Rattle.lattice.specs.declared.face_points.FacePoint.{FacePoint}
 use Rattle.lattice.specs.Lattice.{LatticePoint, pointAt}
 use Rattle.lattice.specs.Shared.{cornerAt, edgeAt, firstCorner, otherEdge}
 

@@ -3,12 +3,12 @@
 use Prim.Native.Nat.{ℕ}
 use mathlib.Core.Bool.{Bool}
 use lib.Ieee.{Float, binary64, ofBits, neg, sub, mul, div, lt}
+use Rattle.binary64.specs.Constants.{one}
 use Rattle.vector.specs.declared.Vector3.{Vector3}
+use Rattle.vector.specs.declared.Weights.{Weights}
 use Rattle.vector.specs.Vector.{dotProduct, crossProduct, vectorDifference, vectorMultiple, normalized}
+use Rattle.vector.specs.Triangle.{weights}
 use Rattle.icosahedron.specs.Icosahedron.{cornerPoint}
-use Rattle.barycentric.specs.declared.Weights.{Weights}
-use Rattle.barycentric.specs.Weights.{weights}
-use Rattle.barycentric.specs.Ericson.{oneF}
 use Rattle.master_face.specs.declared.EdgePlanes.{EdgePlanes}
 use Rattle.master_face.specs.declared.Gram.{Gram}
 use Rattle.master_face.specs.declared.MasterFace.{MasterFace}
@@ -20,7 +20,7 @@ gramOf v0 v1 =
     let d00 = dotProduct v0 v0 in
     let d01 = dotProduct v0 v1 in
     let d11 = dotProduct v1 v1 in
-    record { d00 = d00; d01 = d01; d11 = d11; «inv_denom» = div binary64 oneF (sub binary64 (mul binary64 d00 d11) (mul binary64 d01 d01)) }
+    record { d00 = d00; d01 = d01; d11 = d11; «inv_denom» = div binary64 one (sub binary64 (mul binary64 d00 d11) (mul binary64 d01 d01)) }
 
 -- the normals of the side planes through the origin and two corners
 unfoldable pub edgePlanesOf : Vector3 → Vector3 → Vector3 → EdgePlanes
@@ -47,8 +47,8 @@ unfoldable pub masterFaceOf : ℕ → MasterFace
 masterFaceOf index = masterFace (cornerPoint index 0) (cornerPoint index 1) (cornerPoint index 2)
 
 -- `projection` of the source: p · (offset / (p · normal))
-unfoldable pub projected : MasterFace → Vector3 → Vector3
-projected face p = vectorMultiple p (div binary64 (face .«plane_offset») (dotProduct p (face .normal)))
+unfoldable pub radialProjection : MasterFace → Vector3 → Vector3
+radialProjection face p = vectorMultiple p (div binary64 (face .«plane_offset») (dotProduct p (face .normal)))
 
 -- `barycentric` of the source: α, β and γ of a projected point
 unfoldable pub faceWeights : MasterFace → Vector3 → Weights
@@ -59,11 +59,11 @@ faceWeights face pp =
     let g = face .gram in
     let beta = mul binary64 (sub binary64 (mul binary64 (g .d11) d20) (mul binary64 (g .d01) d21)) (g .«inv_denom») in
     let gamma = mul binary64 (sub binary64 (mul binary64 (g .d00) d21) (mul binary64 (g .d01) d20)) (g .«inv_denom») in
-    weights (sub binary64 (sub binary64 oneF beta) gamma) beta gamma
+    weights (sub binary64 (sub binary64 one beta) gamma) beta gamma
 
 -- whether p lies on a plane's negative side, by more than a limit says
-abbrev pub below : Vector3 → Vector3 → Float → Bool
-below p plane limit = lt (dotProduct p plane) limit
+abbrev pub belowPlane : Vector3 → Vector3 → Float → Bool
+belowPlane p plane limit = lt (dotProduct p plane) limit
 
 -- `-EPS` of the source, −1e-12
 abbrev pub negativeEps : Float
@@ -72,7 +72,7 @@ negativeEps = neg (ofBits binary64 0x3d719799812dea11)
 -- beyond which side planes of a face p lies
 unfoldable pub outsideOf : MasterFace → Vector3 → Outside
 outsideOf face p = record {
-  first = below p (face .«edge_planes» .first) negativeEps;
-  second = below p (face .«edge_planes» .second) negativeEps;
-  third = below p (face .«edge_planes» .third) negativeEps;
+  first = belowPlane p (face .«edge_planes» .first) negativeEps;
+  second = belowPlane p (face .«edge_planes» .second) negativeEps;
+  third = belowPlane p (face .«edge_planes» .third) negativeEps;
 }

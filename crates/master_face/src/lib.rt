@@ -1,11 +1,11 @@
 // The master faces of the icosahedron: plane geometry for projection and classification, and the Gram numbers of the edges.
 ghost use mathlib.Core.Path.{_≡_};
-ghost use Rattle.master_face.specs.MasterFace.{gramOf, edgePlanesOf, masterFace, projected, faceWeights, outsideOf};
+ghost use Rattle.master_face.specs.MasterFace.{gramOf, edgePlanesOf, masterFace, radialProjection, faceWeights, outsideOf};
 
 pub mod faces;
 
-use barycentric::Weights;
 use vector::Vector3;
+use vector::Weights;
 
 pub struct Corners {
     pub p1: Vector3,
@@ -100,7 +100,7 @@ impl MasterFace {
 
     // The point's radial projection onto the face's plane.
     pub fn projection(self, p: Vector3) -> Vector3
-        ensures { λ r. ⌜ r ≡ projected self p ⌝ }
+        ensures { λ r. ⌜ r ≡ radialProjection self p ⌝ }
     {
         let normal = self.normal;
         p.scale(self.plane_offset / p.dot(normal))

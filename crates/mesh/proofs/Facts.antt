@@ -8,8 +8,9 @@ use lib.Dec.{leb, eqb}
 use lib.ListN.{length, getD}
 use lib.Ieee.{Float}
 use borrow.Author.Tests.{leb-true, eqb-true, lt-ltb, le-leb, eq-eqb}
+use Rattle.booleans.proofs.Booleans.{and-split, and-intro}
 use Rattle.sequences.specs.Starts.{CompressedRows}
-use Rattle.sequences.proofs.Range.{and-split, and-intro, all-below-at, all-below-intro}
+use Rattle.sequences.proofs.Range.{all-below-at, all-below-intro}
 use Rattle.refusal.specs.declared.Verdict.the-variants.{Passed}
 use Rattle.refusal.specs.Refusal.{refusal, refusalAt}
 use Rattle.refusal.proofs.Rows.{row-passed, then-passed}

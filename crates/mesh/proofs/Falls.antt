@@ -7,8 +7,9 @@ use mathlib.Core.Bool.{Bool, true, false}
 use mathlib.Core.List.{List}
 use lib.ListN.{length, getD}
 use borrow.Author.Tests.{leb-true, leb-false}
+use Rattle.booleans.proofs.Booleans.{true-or-false}
 use Rattle.sequences.specs.Range.{allBelow, firstFailing}
-use Rattle.sequences.proofs.Range.{true-or-false, all-below-at, all-below-fails, first-failing-at, first-failing}
+use Rattle.sequences.proofs.Range.{all-below-at, all-below-fails, first-failing-at, first-failing}
 use Rattle.mesh.specs.Rows.{notFalling, firstFall, startsAscend}
 
 -- "the index of the first start below the one before it"

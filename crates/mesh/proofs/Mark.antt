@@ -53,17 +53,17 @@ reading-exact m mark rows =
     (λ marked. ascending-lists m (rw found at marked), λ ascend. found ∙ lists-ascend m ascend)
 
 -- 18 carries the index of the first start that falls, every other refusal 0.
-pub reading-index : (m : Mesh) (mark : Bool) (reason : Refusal) → markAscending m mark .verdict ≡ Refused reason → IndexTold (m .starts) reason
+pub reading-index : (m : Mesh) (mark : Bool) (reason : Refusal) → markAscending m mark .answered ≡ Refused reason → IndexTold (m .starts) reason
 unfolding markAscending
 reading-index m mark reason h =
     adjacency-index m reason
-    (answer-refused (λ (o : MarkOutcome). o .verdict ≡ Refused reason) (adjacencyRows m) _ _ reason (λ e. refused-not-passed reason (sym e)) (λ other e. cc) h)
+    (answer-refused (λ (o : MarkOutcome). o .answered ≡ Refused reason) (adjacencyRows m) _ _ reason (λ e. refused-not-passed reason (sym e)) (λ other e. cc) h)
 
 -- The mark before changes nothing but the mark after a refusal.
-pub reading-same : (m : Mesh) (mark other : Bool) → (markAscending m mark .verdict ≡ markAscending m other .verdict) × (adjacencyRows m ≡ Passed → markAscending m mark ≡ markAscending m other)
+pub reading-same : (m : Mesh) (mark other : Bool) → (markAscending m mark .answered ≡ markAscending m other .answered) × (adjacencyRows m ≡ Passed → markAscending m mark ≡ markAscending m other)
 unfolding markAscending
 reading-same m mark other =
-    (answers-relate (λ (o₁ o₂ : MarkOutcome). o₁ .verdict ≡ o₂ .verdict) (adjacencyRows m) _ _ _ _ (λ reason. refl) refl, λ rows. rw rows refl)
+    (answers-relate (λ (o₁ o₂ : MarkOutcome). o₁ .answered ≡ o₂ .answered) (adjacencyRows m) _ _ _ _ (λ reason. refl) refl, λ rows. rw rows refl)
 
 -- ---- no call that is lent a mark sets it falsely: `meshIn` and `markIn` read an outcome. A refused call leaves mesh and mark; an accepted one leaves a mesh with which its mark is truthful.
 pub mark-truthful : {A : Type 0} (meshIn : A → Mesh) (markIn : A → Bool) (v : Verdict) (refused : Refusal → A) (accepted : A)

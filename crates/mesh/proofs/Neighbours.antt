@@ -4,9 +4,9 @@ use native.Mathlib.Omega.{arith}
 use mathlib.Core.Path.{_≡_}
 use mathlib.Core.List.{List·Memᴰ}
 use lib.ListN.{length, getD}
-use Rattle.sequences.specs.Starts.{concatenate, startsOf}
+use Rattle.sequences.specs.Starts.{concatenate}
 use Rattle.sequences.proofs.Tabulate.{member-getD}
-use Rattle.sequences.proofs.Starts.{part-length, part-member, rows-starts, rows-entries}
+use Rattle.sequences.proofs.Starts.{part-length, part-member, rows-entries}
 use Rattle.mesh.specs.Mesh.{Mesh, count, neighbours}
 use Rattle.mesh.specs.Rows.{longestList}
 use Rattle.mesh.proofs.Facts.{AdjacencyFacts}
@@ -25,11 +25,6 @@ module _ (m : Mesh) (facts : AdjacencyFacts m) where
 
   pub neighbours-limited : (v : ℕ) → v < count m → length (neighbours m v) ≤ longestList
   neighbours-limited v lt = omega (arith, neighbours-length v lt, facts .limited v lt)
-
-  -- starts and entries are those of the lists
-  pub starts-of-neighbours : startsOf (count m) (neighbours m) ≡ m .starts
-  unfolding neighbours
-  starts-of-neighbours = rows-starts (count m) (m .starts) (m .entries) (facts .rows)
 
   pub entries-of-neighbours : concatenate (count m) (neighbours m) ≡ m .entries
   unfolding neighbours

@@ -1,4 +1,4 @@
--- Why a mesh is refused. `list-reasons`, `adjacency-reasons`, `mesh-reasons`: each reason is one of the rows'. `list-index`, `adjacency-index`, `mesh-index`: 18 tells the first start that falls, every other number nothing. `same-verdict`, `same-accepted`: the verdict is document 01's, but for 17 and 18 where that has 3. Assumes nothing.
+-- Why a mesh is refused. `list-reasons`, `adjacency-reasons`, `mesh-reasons`: each reason is one of the rows'. `adjacency-index`, `mesh-index`: 18 tells the first start that falls, every other number nothing. `same-verdict`, `same-accepted`: the verdict is document 01's, but for 17 and 18 where that has 3. Assumes nothing.
 use Prim.Native.Nat.{ℕ}
 use native.Mathlib.Omega.{arith}
 use mathlib.Core.Path.{_≡_, refl, sym, ap, _∙_}
@@ -48,10 +48,6 @@ module _ (starts : List ℕ) where
 
   pub told-fall : firstFall starts ≢ 0 → IndexTold starts (refusalAt 18 (firstFall starts))
   told-fall falls = inl (refl, fall-first starts falls)
-
-pub list-index : (n : ℕ) (starts entries : List ℕ) → EachReason (IndexTold starts) (listRows n starts entries)
-list-index n starts entries =
-    list-reasons (IndexTold starts) n starts entries (told-none starts 3 (λ z. omega arith)) (told-none starts 17 (λ z. omega arith)) (told-fall starts) (told-none starts 4 (λ z. omega arith))
 
 module _ (m : Mesh) where
   pub adjacency-index : EachReason (IndexTold (m .starts)) (adjacencyRows m)

@@ -24,11 +24,11 @@ Truthful m mark = mark ≡ true → listsAscend m ≡ true
 
 -- What the reading call leaves: its verdict, and the mark. It is lent nothing else for writing.
 pub record MarkOutcome : Type 0 where
-  pub verdict : Verdict
+  pub answered : Verdict
   pub mark : Bool
 
 abbrev pub markOutcome : Verdict → Bool → MarkOutcome
-markOutcome verdict mark = record { verdict = verdict; mark = mark }
+markOutcome verdict mark = record { answered = verdict; mark = mark }
 
 -- "a reading call, which after rows 2 to 4 sets the mark exactly when all its lists ascend, and else clears it"
 unfoldable pub markAscending : Mesh → Bool → MarkOutcome

@@ -3,15 +3,14 @@ use Prim.Native.Nat.{ℕ, _+_, _≤_, _<_}
 use native.Mathlib.Omega.{arith}
 use native.Mathlib.Numerals.{add-one}
 use mathlib.Core.Path.{_≡_, refl, sym, ap, _∙_}
-use mathlib.Core.Bool.{false}
-use mathlib.Core.List.{List, [], _∷_}
+use mathlib.Core.List.{List}
 use lib.ListN.{length, getD, set, drop, drop-of-length-le}
 use lib.Seq.{drop-cons}
 use Rattle.sequences.specs.Tabulate.{tabulate, Overwritten}
 use Rattle.sequences.proofs.Tabulate.{length-tabulate, tabulate-at, overwritten-none, overwritten-set, overwritten-whole}
 use Rattle.records.specs.declared.Cursor.{Cursor}
 use Rattle.records.specs.declared.Word.{Word}
-use Rattle.records.specs.Words.{cursorAt, cursorOf, nextWord, wordAtMost, expected}
+use Rattle.records.specs.Words.{cursorOf, wordAtMost, expected}
 use Rattle.records.specs.Lists.{expectedEach, behindWords, numberBehind, ListRead}
 
 -- ---- compared
@@ -24,12 +23,6 @@ module _ (text : List ℕ) (cursor : Cursor) (numbers : List ℕ) (i : ℕ) wher
   pub each-all : length numbers ≤ i → expectedEach text cursor (drop i numbers) ≡ cursor
   unfolding expectedEach
   each-all h = rw (drop-of-length-le numbers h) refl
-
--- a bad cursor stays bad, and where it is
-pub each-of-bad : (text : List ℕ) (at : ℕ) (numbers : List ℕ) → expectedEach text (cursorAt at false) numbers ≡ cursorAt at false
-unfolding expectedEach expected nextWord
-each-of-bad text at [] = refl
-each-of-bad text at (number ∷ rest) = each-of-bad text at rest
 
 -- ---- read
 module _ {A : Type 0} (element : ℕ → A) (most : ℕ) (text : List ℕ) (from : Cursor) where

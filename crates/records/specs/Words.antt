@@ -97,8 +97,8 @@ wordAtMost most text cursor = limited most (nextWord text cursor)
 abbrev pub word32 : Word → Word32
 word32 word = record { value = word .value; at = word .at; good = word .good }
 
-abbrev pub lengthOf : Word → Length
-lengthOf word = record { places = word .value; at = word .at; good = word .good }
+abbrev pub lengthWord : Word → Length
+lengthWord word = record { places = word .value; at = word .at; good = word .good }
 
 -- ---- comparisons
 

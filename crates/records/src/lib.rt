@@ -7,7 +7,7 @@ ghost use mathlib.Core.Bool.{true};
 ghost use mathlib.Core.List.{map};
 ghost use lib.ListN.{length};
 ghost use lib.Ieee.{binary64, ofBits};
-ghost use Rattle.records.specs.Words.{cursorAt, goodWord, badWord, digitValue, digitsAt, spellsNan, tokenAt, lineGoesOn, nextWord, wordAtMost, word32, lengthOf, onlyIf, expected, lineEnd};
+ghost use Rattle.records.specs.Words.{cursorAt, goodWord, badWord, digitValue, digitsAt, spellsNan, tokenAt, lineGoesOn, nextWord, wordAtMost, word32, lengthWord, onlyIf, expected, lineEnd};
 ghost use Rattle.records.specs.Lists.{pattern, expectedEach, expectedList, ListRead, allNumbers, allDoubles};
 ghost use Rattle.records.specs.Hash.{hashedBytes, bytesOf, hashOf};
 
@@ -246,7 +246,7 @@ pub fn take_u32(text: &[u8], cursor: Cursor) -> Word32
 
 // The next word is a number of places, of which there are at most so many.
 pub fn take_length(text: &[u8], cursor: Cursor, most: usize) -> Length
-    ensures { λ r. ⌜ r ≡ lengthOf (wordAtMost most (now (text .entry)) cursor) ⌝ }
+    ensures { λ r. ⌜ r ≡ lengthWord (wordAtMost most (now (text .entry)) cursor) ⌝ }
     ensures { λ r. ⌜ r .places ≤ most ⌝ }
 {
     let word = take_at_most(text, cursor, most as u64);

@@ -13,7 +13,7 @@ use Rattle.refusal.specs.Refusal.{refusal}
 use Rattle.refusal.proofs.Rows.{row-passed}
 use Rattle.mesh.specs.Mesh.{Mesh, count}
 use Rattle.mesh.proofs.Facts.{AdjacencyFacts, adjacency-passed}
-use Rattle.renumber.specs.Renumber.{Call, entriesPerVertexFit, longestLength, scratchFits, callRows, renumberRows, renumberedMesh, renumberedData, renumber}
+use Rattle.renumber.specs.Renumber.{Call, entriesPerVertexFit, longestLength, scratchFits, callRows, renumberRows, renumberedMesh, renumberedData, applyVertexPermutation}
 
 -- rows 6, 7 and 8 of an accepted call
 pub accepted-permutation : (n longest : ℕ) (call : Call) → callRows n longest call ≡ Passed → IsPermutation n (call .permutation)
@@ -37,22 +37,18 @@ unfolding renumberRows
 call-rows-decide m facts values call = rw (adjacency-passed m facts) refl
 
 module _ (m : Mesh) (mark : Bool) (values : List Float) (call : Call) where
-  pub accepted-mesh : renumberRows m values call ≡ Passed → renumber m mark values call .mesh ≡ renumberedMesh (call .permutation) m
-  unfolding renumber
+  pub accepted-mesh : renumberRows m values call ≡ Passed → applyVertexPermutation m mark values call .mesh ≡ renumberedMesh (call .permutation) m
+  unfolding applyVertexPermutation
   accepted-mesh h = rw h refl
 
-  pub accepted-values : renumberRows m values call ≡ Passed → renumber m mark values call .values ≡ renumberedData (count m) (call .permutation) (call .entriesPerVertex) values
-  unfolding renumber
+  pub accepted-values : renumberRows m values call ≡ Passed → applyVertexPermutation m mark values call .values ≡ renumberedData (count m) (call .permutation) (call .entriesPerVertex) values
+  unfolding applyVertexPermutation
   accepted-values h = rw h refl
 
-  pub accepted-mark : renumberRows m values call ≡ Passed → renumber m mark values call .mark ≡ true
-  unfolding renumber
-  accepted-mark h = rw h refl
-
-  pub refused-mesh : (reason : Refusal) → renumberRows m values call ≡ Refused reason → renumber m mark values call .mesh ≡ m
-  unfolding renumber
+  pub refused-mesh : (reason : Refusal) → renumberRows m values call ≡ Refused reason → applyVertexPermutation m mark values call .mesh ≡ m
+  unfolding applyVertexPermutation
   refused-mesh reason h = rw h refl
 
-  pub refused-values : (reason : Refusal) → renumberRows m values call ≡ Refused reason → renumber m mark values call .values ≡ values
-  unfolding renumber
+  pub refused-values : (reason : Refusal) → renumberRows m values call ≡ Refused reason → applyVertexPermutation m mark values call .values ≡ values
+  unfolding applyVertexPermutation
   refused-values reason h = rw h refl

@@ -1,4 +1,4 @@
--- What a renumbering does to the mark: an accepted one sets it, and rightly (`accepted-mark`, `renumbering-truthful`); nothing else depends on it (`renumbering-same`). Assumes nothing.
+-- What a renumbering does to the mark: an accepted one sets it, and rightly (`renumbering-truthful`); nothing else depends on it (`renumbering-same`). Assumes nothing.
 use native.Mathlib.Omega.{arith}
 use mathlib.Core.Path.{_≡_, refl}
 use mathlib.Core.Bool.{Bool, true}
@@ -11,13 +11,13 @@ use Rattle.mesh.specs.Rows.{adjacencyRows}
 use Rattle.mesh.specs.Mark.{listsAscend, Truthful}
 use Rattle.mesh.proofs.Facts.{adjacency-facts}
 use Rattle.mesh.proofs.Mark.{lists-ascend, mark-truthful}
-use Rattle.renumber.specs.Renumber.{Call, longestLength, callRows, RenumberOutcome, renumberRows, renumberedMesh, renumber}
+use Rattle.renumber.specs.Renumber.{Call, longestLength, callRows, RenumberOutcome, renumberRows, renumberedMesh, applyVertexPermutation}
 use Rattle.renumber.proofs.RenumberedMesh.{renumbered-count, renumbered-ascends}
 use Rattle.renumber.proofs.Calls.{accepted-permutation}
 
 -- two outcomes that are alike but for the mark
 pub record Alike (o₁ o₂ : RenumberOutcome) : Type 0 where
-  pub verdict : o₁ .verdict ≡ o₂ .verdict
+  pub verdict : o₁ .answered ≡ o₂ .answered
   pub mesh : o₁ .mesh ≡ o₂ .mesh
   pub values : o₁ .values ≡ o₂ .values
 
@@ -30,13 +30,13 @@ module _ (m : Mesh) (values : List Float) (call : Call) where
       let same = renumbered-count m (adjacency-facts m (rows .0)) permutes in
       lists-ascend (renumberedMesh (call .permutation) m) (λ i lt. renumbered-ascends m permutes i (omega arith))
 
-  pub renumbering-truthful : (mark : Bool) → Truthful m mark → Truthful (renumber m mark values call .mesh) (renumber m mark values call .mark)
-  unfolding renumber
+  pub renumbering-truthful : (mark : Bool) → Truthful m mark → Truthful (applyVertexPermutation m mark values call .mesh) (applyVertexPermutation m mark values call .mark)
+  unfolding applyVertexPermutation
   renumbering-truthful mark before =
       mark-truthful (λ (o : RenumberOutcome). o .mesh) (λ (o : RenumberOutcome). o .mark) (renumberRows m values call) _ _ (λ reason. before) (λ rows marked. accepted-ascend rows)
 
   -- "no other outcome depends on it"
-  pub renumbering-same : (mark other : Bool) → Alike (renumber m mark values call) (renumber m other values call)
-  unfolding renumber
+  pub renumbering-same : (mark other : Bool) → Alike (applyVertexPermutation m mark values call) (applyVertexPermutation m other values call)
+  unfolding applyVertexPermutation
   renumbering-same mark other =
       answers-relate Alike (renumberRows m values call) _ _ _ _ (λ reason. record { verdict = refl; mesh = refl; values = refl }) (record { verdict = refl; mesh = refl; values = refl })

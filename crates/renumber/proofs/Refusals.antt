@@ -14,7 +14,7 @@ use Rattle.refusal.proofs.Rows.{refused-not-passed, answer-refused, EachReason,
 use Rattle.mesh.specs.Mesh.{Mesh, count}
 use Rattle.mesh.specs.Rows.{adjacencyRows}
 use Rattle.mesh.proofs.Refusals.{IndexTold, told-none, adjacency-index}
-use Rattle.renumber.specs.Renumber.{Call, entriesPerVertexFit, longestLength, scratchFits, callRows, RenumberOutcome, renumberRows, renumber}
+use Rattle.renumber.specs.Renumber.{Call, entriesPerVertexFit, longestLength, scratchFits, callRows, RenumberOutcome, renumberRows, applyVertexPermutation}
 
 module _ (m : Mesh) (mark : Bool) (values : List Float) (call : Call) where
   -- rows 6 to 8 carry no index
@@ -28,8 +28,8 @@ module _ (m : Mesh) (mark : Bool) (values : List Float) (call : Call) where
       reasons-row P (scratchFits (max (longestLength m values) (length (call .permutation))) (call .scratchLengths)) (refusal 8) Passed (λ e. none 8 (λ z. omega arith)) (λ room. reasons-passed P)))
 
   -- 18 carries the index of the first start that falls, every other refusal 0
-  pub renumber-index : (reason : Refusal) → renumber m mark values call .verdict ≡ Refused reason → IndexTold (m .starts) reason
-  unfolding renumber renumberRows
+  pub renumber-index : (reason : Refusal) → applyVertexPermutation m mark values call .answered ≡ Refused reason → IndexTold (m .starts) reason
+  unfolding applyVertexPermutation renumberRows
   renumber-index reason h =
       reasons-then (IndexTold (m .starts)) (adjacencyRows m) _ (adjacency-index m) call-index reason
-      (answer-refused (λ (o : RenumberOutcome). o .verdict ≡ Refused reason) (renumberRows m values call) _ _ reason (λ e. refused-not-passed reason (sym e)) (λ other e. cc) h)
+      (answer-refused (λ (o : RenumberOutcome). o .answered ≡ Refused reason) (renumberRows m values call) _ _ reason (λ e. refused-not-passed reason (sym e)) (λ other e. cc) h)

@@ -10,7 +10,7 @@ use Rattle.refusal.proofs.Rows.{refused-not-passed, then-passed, answer-passed}
 use Rattle.mesh.specs.Mesh.{Mesh, count}
 use Rattle.mesh.specs.Rows.{adjacencyRows}
 use Rattle.mesh.proofs.Facts.{adjacency-facts}
-use Rattle.renumber.specs.Renumber.{Call, RenumberOutcome, longestLength, callRows, renumberRows, renumber}
+use Rattle.renumber.specs.Renumber.{Call, RenumberOutcome, longestLength, callRows, renumberRows, applyVertexPermutation}
 use Rattle.renumber.proofs.RenumberedMesh.{renumbered-count, renumbered-adjacency}
 use Rattle.renumber.proofs.Calls.{accepted-permutation, accepted-mesh}
 
@@ -19,12 +19,12 @@ pub record RenumberedFacts (n : ℕ) (m : Mesh) : Type 0 where
   pub same-count : count m ≡ n
   pub entries-below : (i : ℕ) → i < length (m .entries) → getD (m .entries) i 0 < n
 
-passed-rows : (m : Mesh) (mark : Bool) (values : List Float) (call : Call) → renumber m mark values call .verdict ≡ Passed → renumberRows m values call ≡ Passed
-unfolding renumber
-passed-rows m mark values call h = answer-passed (λ (o : RenumberOutcome). o .verdict ≡ Passed) (renumberRows m values call) _ _ h refused-not-passed
+passed-rows : (m : Mesh) (mark : Bool) (values : List Float) (call : Call) → applyVertexPermutation m mark values call .answered ≡ Passed → renumberRows m values call ≡ Passed
+unfolding applyVertexPermutation
+passed-rows m mark values call h = answer-passed (λ (o : RenumberOutcome). o .answered ≡ Passed) (renumberRows m values call) _ _ h refused-not-passed
 
 -- every accepted renumbering
-pub renumbered-below : (m : Mesh) (mark : Bool) (values : List Float) (call : Call) → renumber m mark values call .verdict ≡ Passed → RenumberedFacts (count m) (renumber m mark values call .mesh)
+pub renumbered-below : (m : Mesh) (mark : Bool) (values : List Float) (call : Call) → applyVertexPermutation m mark values call .answered ≡ Passed → RenumberedFacts (count m) (applyVertexPermutation m mark values call .mesh)
 unfolding renumberRows
 renumbered-below m mark values call h =
     let passed = passed-rows m mark values call h in

@@ -10,7 +10,7 @@ use Rattle.sequences.specs.Starts.{concatenate, startsOf}
 use Rattle.sequences.specs.Ascending.{Nondecreasing, sort}
 use Rattle.sequences.specs.Permutation.{at, IsPermutation, inverse, identity, compose, movedBlocks, relabelled}
 use Rattle.sequences.proofs.Tabulate.{getD-member}
-use Rattle.sequences.proofs.Starts.{length-starts, starts-at, start-suc, starts-extensional, length-concatenate, concatenate-extensional, concatenate-member, concatenate-part, compressed-rows}
+use Rattle.sequences.proofs.Starts.{starts-at, start-suc, starts-extensional, length-concatenate, concatenate-extensional, concatenate-member, concatenate-part, compressed-rows}
 use Rattle.sequences.proofs.Sorted.{sort-again}
 use Rattle.sequences.proofs.Permutation.{permutation-bijection, length-moved-blocks, moved-blocks-from, moved-blocks-identity, moved-blocks-compose, relabelled-at, length-relabelled, relabelled-total, relabelled-below, relabelled-nondecreasing, relabelled-identity, relabelled-compose, relabelled-extensional}
 use Rattle.mesh.specs.Mesh.{Mesh, count, positionOf, neighbours}
@@ -36,13 +36,6 @@ module _ (m : Mesh) (facts : AdjacencyFacts m) {q : List ℕ} (h : IsPermutation
 
   pub renumbered-count : count (renumberedMesh q m) ≡ count m
   renumbered-count = omega (arith, renumbered-positions-length)
-
-  pub same-positions-length : length (renumberedMesh q m .positions) ≡ length (m .positions)
-  same-positions-length = renumbered-positions-length ∙ sym (facts .three-each)
-
-  pub same-starts-length : length (renumberedMesh q m .starts) ≡ length (m .starts)
-  unfolding renumberedMesh
-  same-starts-length = length-starts (count m) (relabelled q (neighbours m)) ∙ sym (facts .rows .size)
 
   pub same-entries-length : length (renumberedMesh q m .entries) ≡ length (m .entries)
   unfolding renumberedMesh

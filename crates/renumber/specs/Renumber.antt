@@ -59,7 +59,7 @@ renumberedData n permutation each values = mapSlabs (n * each) (renumberedSlab p
 
 -- The whole outcome of a call: its answer, and mesh, mark and data at exit. Scratch is free after an accepted call, and as it was after a refused one.
 pub record RenumberOutcome : Type 0 where
-  pub verdict : Verdict
+  pub answered : Verdict
   pub mesh : Mesh
   pub mark : Bool
   pub values : List Float
@@ -69,11 +69,11 @@ unfoldable pub renumberRows : Mesh → List Float → Call → Verdict
 renumberRows m values call = then (adjacencyRows m) (callRows (count m) (longestLength m values) call)
 
 -- "a lattice and an accepted renumbering set it" (W-208), the mark that the lists ascend; a refused call leaves it, as it leaves mesh and data.
-unfoldable pub renumber : Mesh → Bool → List Float → Call → RenumberOutcome
-renumber m mark values call =
-    answer (renumberRows m values call) (λ reason. record { verdict = Refused reason; mesh = m; mark = mark; values = values })
+unfoldable pub applyVertexPermutation : Mesh → Bool → List Float → Call → RenumberOutcome
+applyVertexPermutation m mark values call =
+    answer (renumberRows m values call) (λ reason. record { answered = Refused reason; mesh = m; mark = mark; values = values })
     (record {
-      verdict = Passed;
+      answered = Passed;
       mesh = renumberedMesh (call .permutation) m;
       mark = true;
       values = renumberedData (count m) (call .permutation) (call .entriesPerVertex) values;
@@ -84,8 +84,8 @@ abbrev pub callOf : List ℕ → ℕ → List ℕ → Call
 callOf permutation each scratchLengths = record { permutation = permutation; entriesPerVertex = each; scratchLengths = scratchLengths }
 
 -- An answer, with mesh, mark and data at exit, as an outcome.
-abbrev pub outcomeOf : Verdict → Mesh → Bool → List Float → RenumberOutcome
-outcomeOf verdict mesh mark values = record { verdict = verdict; mesh = mesh; mark = mark; values = values }
+abbrev pub renumberOutcome : Verdict → Mesh → Bool → List Float → RenumberOutcome
+renumberOutcome verdict mesh mark values = record { answered = verdict; mesh = mesh; mark = mark; values = values }
 
 -- What the five scratch slices hold.
 pub record Scratch : Type 0 where

@@ -2,18 +2,18 @@
 use records::Cursor;
 
 // a, b, c; a * b + c.
-pub fn mul_add(text: &[u8], start: usize) -> Cursor {
+pub fn replay_mul_add(text: &[u8], start: usize) -> Cursor {
     let mut operands = [0.0f64; 3];
     let cursor = records::read_f64s(text, Cursor::new(start), &mut operands);
-    let result = c_api::koshirga_mul_add(operands[0], operands[1], operands[2]);
+    let result = c_api::arithmetic::koshirga_mul_add(operands[0], operands[1], operands[2]);
     records::expect_f64(text, cursor, result)
 }
 
 // x; its root.
-pub fn sqrt(text: &[u8], start: usize) -> Cursor {
+pub fn replay_sqrt(text: &[u8], start: usize) -> Cursor {
     let mut operands = [0.0f64; 1];
     let cursor = records::read_f64s(text, Cursor::new(start), &mut operands);
-    records::expect_f64(text, cursor, c_api::koshirga_sqrt(operands[0]))
+    records::expect_f64(text, cursor, c_api::arithmetic::koshirga_sqrt(operands[0]))
 }
 
 // Whether a signed number has this pattern in two's complement.
@@ -26,14 +26,14 @@ fn has_pattern(n: i64, pattern: u64) -> bool {
 }
 
 // x; its floor, its ceiling, x as a signed 64-bit number, and what became of it there.
-pub fn integral(text: &[u8], start: usize) -> Cursor {
+pub fn replay_integral(text: &[u8], start: usize) -> Cursor {
     let mut operands = [0.0f64; 1];
     let cursor = records::read_f64s(text, Cursor::new(start), &mut operands);
     let x = operands[0];
-    let behind_floor = records::expect_f64(text, cursor, c_api::koshirga_floor(x));
-    let behind_ceil = records::expect_f64(text, behind_floor, c_api::koshirga_ceil(x));
+    let behind_floor = records::expect_f64(text, cursor, c_api::arithmetic::koshirga_floor(x));
+    let behind_ceil = records::expect_f64(text, behind_floor, c_api::arithmetic::koshirga_ceil(x));
     let whole = records::take(text, behind_ceil);
-    let converted = c_api::koshirga_to_i64(x);
+    let converted = c_api::arithmetic::koshirga_to_i64(x);
     let behind_whole = whole
         .cursor()
         .only_if(has_pattern(converted.whole, whole.value));
@@ -41,10 +41,10 @@ pub fn integral(text: &[u8], start: usize) -> Cursor {
 }
 
 // Two bit patterns; 0 where the first is below the second in the total order, 1 where they are the same, 2 where it is above.
-pub fn total_order(text: &[u8], start: usize) -> Cursor {
+pub fn replay_total_order(text: &[u8], start: usize) -> Cursor {
     let x = records::take(text, Cursor::new(start));
     let y = records::take(text, x.cursor());
-    let order = c_api::koshirga_total_cmp(x.value, y.value);
+    let order = c_api::arithmetic::koshirga_total_cmp(x.value, y.value);
     let code: u64 = if order < 0 {
         0
     } else if order == 0 {
@@ -56,9 +56,9 @@ pub fn total_order(text: &[u8], start: usize) -> Cursor {
 }
 
 // Two numbers; the lesser of them, minimumNumber (IEEE 754-2019, 9.6).
-pub fn minimum_number(text: &[u8], start: usize) -> Cursor {
+pub fn replay_minimum_number(text: &[u8], start: usize) -> Cursor {
     let mut operands = [0.0f64; 2];
     let cursor = records::read_f64s(text, Cursor::new(start), &mut operands);
-    let result = c_api::koshirga_minimum_number(operands[0], operands[1]);
+    let result = c_api::arithmetic::koshirga_minimum_number(operands[0], operands[1]);
     records::expect_f64(text, cursor, result)
 }

@@ -1,4 +1,5 @@
 // Lattices, with their walks or their grids.
+use crate::lengths::take_mesh_lengths;
 use crate::marks;
 use crate::marks::Mark;
 use crate::meshes;
@@ -8,23 +9,27 @@ use crate::places::U32_BEFORE;
 use records::Cursor;
 
 // The mark before the call. With a grid it is not recorded, and is false.
-fn take_mark(text: &[u8], cursor: Cursor, with_grid: bool) -> Mark {
+fn take_mark_if_recorded(text: &[u8], cursor: Cursor, with_grid: bool) -> Mark {
     if with_grid {
         return Mark {
             lists_ascend: false,
-            at: cursor.at,
-            good: cursor.good,
+            behind: cursor,
         };
     }
-    marks::take(text, cursor)
+    marks::take_mark(text, cursor)
 }
 
 // The mark after it, where it is recorded.
-fn expect_mark(text: &[u8], cursor: Cursor, with_grid: bool, lists_ascend: bool) -> Cursor {
+fn expect_mark_if_recorded(
+    text: &[u8],
+    cursor: Cursor,
+    with_grid: bool,
+    lists_ascend: bool,
+) -> Cursor {
     if with_grid {
         return cursor;
     }
-    marks::expect(text, cursor, lists_ascend)
+    marks::expect_mark(text, cursor, lists_ascend)
 }
 
 // The refusal, the mark and the slices after the call; then the walk or the grid of what stands in them.
@@ -41,11 +46,9 @@ fn expect_lattice(
     ids: &[u16],
 ) -> Cursor {
     let answered = records::expect_u32(text, cursor, refusal);
-    let marked = expect_mark(text, answered, with_grid, lists_ascend);
-    let behind_positions = records::expect_f64s(text, marked, positions, hashed);
-    let behind_starts = records::expect_u32s(text, behind_positions, starts, hashed);
-    let behind_entries = records::expect_u16s(text, behind_starts, entries, hashed);
-    let behind_ids = records::expect_u16s(text, behind_entries, ids, hashed);
+    let marked = expect_mark_if_recorded(text, answered, with_grid, lists_ascend);
+    let behind_mesh = meshes::expect_mesh(text, marked, hashed, positions, starts, entries);
+    let behind_ids = records::expect_u16s(text, behind_mesh, ids, hashed);
     if with_grid {
         return meshes::grid(text, behind_ids, hashed, positions, starts, entries);
     }
@@ -63,9 +66,9 @@ fn replay_lattice(
     entries: &mut [u16],
     ids: &mut [u16],
 ) -> Cursor {
-    let before = take_mark(text, cursor, with_grid);
+    let before = take_mark_if_recorded(text, cursor, with_grid);
     let mut lists_ascend = before.lists_ascend;
-    let refusal = c_api::koshirga_lattice(
+    let refusal = c_api::lattices::koshirga_lattice(
         frequency,
         positions,
         starts,
@@ -75,7 +78,7 @@ fn replay_lattice(
     );
     expect_lattice(
         text,
-        before.cursor(),
+        before.behind,
         hashed,
         with_grid,
         refusal,
@@ -88,7 +91,7 @@ fn replay_lattice(
 }
 
 // n, and the lengths of the four slices that are lent.
-fn cut(
+fn cut_lattice(
     text: &[u8],
     start: usize,
     hashed: bool,
@@ -99,13 +102,11 @@ fn cut(
     ids: &mut [u16],
 ) -> Cursor {
     let frequency = records::take_u32(text, Cursor::new(start));
-    let p = records::take_length(text, frequency.cursor(), positions.len());
-    let s = records::take_length(text, p.cursor(), starts.len());
-    let e = records::take_length(text, s.cursor(), entries.len());
-    let i = records::take_length(text, e.cursor(), ids.len());
-    let p_end = p.places;
-    let s_end = s.places;
-    let e_end = e.places;
+    let lengths = take_mesh_lengths(text, frequency.cursor(), positions, starts, entries);
+    let i = records::take_length(text, lengths.behind, ids.len());
+    let p_end = lengths.positions;
+    let s_end = lengths.starts;
+    let e_end = lengths.entries;
     let i_end = i.places;
     replay_lattice(
         text,
@@ -126,7 +127,7 @@ pub fn lattice(text: &[u8], start: usize, hashed: bool) -> Cursor {
     let mut starts = [U32_BEFORE; 64003];
     let mut entries = [U16_BEFORE; 384000];
     let mut ids = [U16_BEFORE; 66420];
-    cut(
+    cut_lattice(
         text,
         start,
         hashed,
@@ -144,7 +145,7 @@ pub fn lattice_with_grid(text: &[u8], start: usize) -> Cursor {
     let mut starts = [U32_BEFORE; 36003];
     let mut entries = [U16_BEFORE; 216000];
     let mut ids = [U16_BEFORE; 37820];
-    cut(
+    cut_lattice(
         text,
         start,
         true,

@@ -1,4 +1,6 @@
 // Both locators on the lattice of a frequency.
+use crate::lengths::take_grid_lengths;
+use crate::lengths::take_mesh_lengths;
 use crate::meshes;
 use crate::places::F64_BEFORE;
 use crate::places::FACTOR;
@@ -26,7 +28,7 @@ fn direction(
 ) -> Cursor {
     let read = queries::read_direction(text, Cursor::new(start));
     let v = read.direction;
-    let behind = queries::analytic_answers(text, read.cursor(), frequency, ids, v);
+    let behind = queries::analytic_answers(text, read.behind, frequency, ids, v);
     queries::grid_answers(
         text,
         behind,
@@ -40,7 +42,7 @@ fn direction(
     )
 }
 
-// The first record ends with the builder's answer. Each record behind it is a direction.
+// The first record lengths with the builder's answer. Each record behind it is a direction.
 fn replay_records(
     text: &[u8],
     cursor: Cursor,
@@ -93,7 +95,7 @@ fn on_grid(
     triangle_starts: &mut [u32],
     triples: &mut [u16],
 ) -> Tally {
-    let answer = c_api::koshirga_build_grid(
+    let answer = c_api::grids::koshirga_build_grid(
         positions,
         starts,
         entries,
@@ -119,7 +121,7 @@ fn on_grid(
 }
 
 // Then the lengths of the grid's slices.
-fn cut_grid(
+fn cut_locators_grid(
     text: &[u8],
     cursor: Cursor,
     frequency: u32,
@@ -132,17 +134,21 @@ fn cut_grid(
     triangle_starts: &mut [u32],
     triples: &mut [u16],
 ) -> Tally {
-    let a = records::take_length(text, cursor, cell_starts.len());
-    let b = records::take_length(text, a.cursor(), cell_ids.len());
-    let c = records::take_length(text, b.cursor(), triangle_starts.len());
-    let d = records::take_length(text, c.cursor(), triples.len());
-    let a_end = a.places;
-    let b_end = b.places;
-    let c_end = c.places;
-    let d_end = d.places;
+    let lengths = take_grid_lengths(
+        text,
+        cursor,
+        cell_starts,
+        cell_ids,
+        triangle_starts,
+        triples,
+    );
+    let a_end = lengths.cell_starts;
+    let b_end = lengths.cell_ids;
+    let c_end = lengths.triangle_starts;
+    let d_end = lengths.triples;
     on_grid(
         text,
-        d.cursor(),
+        lengths.behind,
         frequency,
         ids,
         positions,
@@ -168,7 +174,7 @@ fn with_grid(
     let mut cell_ids = [U16_BEFORE; 60000];
     let mut triangle_starts = [U32_BEFORE; 4003];
     let mut triples = [U16_BEFORE; 72000];
-    cut_grid(
+    cut_locators_grid(
         text,
         cursor,
         frequency,
@@ -194,7 +200,7 @@ fn on_lattice(
     ids: &mut [u16],
 ) -> Tally {
     let mut lists_ascend = false;
-    let refusal = c_api::koshirga_lattice(
+    let refusal = c_api::lattices::koshirga_lattice(
         frequency,
         positions,
         starts,
@@ -207,7 +213,7 @@ fn on_lattice(
 }
 
 // The first record begins with n and the lengths of the lattice's slices.
-fn cut_lattice(
+fn cut_locators_lattice(
     text: &[u8],
     positions: &mut [f64],
     starts: &mut [u32],
@@ -215,13 +221,11 @@ fn cut_lattice(
     ids: &mut [u16],
 ) -> Tally {
     let frequency = records::take_u32(text, Cursor::new(0));
-    let p = records::take_length(text, frequency.cursor(), positions.len());
-    let s = records::take_length(text, p.cursor(), starts.len());
-    let e = records::take_length(text, s.cursor(), entries.len());
-    let i = records::take_length(text, e.cursor(), ids.len());
-    let p_end = p.places;
-    let s_end = s.places;
-    let e_end = e.places;
+    let lengths = take_mesh_lengths(text, frequency.cursor(), positions, starts, entries);
+    let i = records::take_length(text, lengths.behind, ids.len());
+    let p_end = lengths.positions;
+    let s_end = lengths.starts;
+    let e_end = lengths.entries;
     let i_end = i.places;
     on_lattice(
         text,
@@ -239,7 +243,7 @@ fn with_lattice(text: &[u8]) -> Tally {
     let mut starts = [U32_BEFORE; 4003];
     let mut entries = [U16_BEFORE; 24000];
     let mut ids = [U16_BEFORE; 4620];
-    cut_lattice(text, &mut positions, &mut starts, &mut entries, &mut ids)
+    cut_locators_lattice(text, &mut positions, &mut starts, &mut entries, &mut ids)
 }
 
 fn replay_file(name: &[u8]) -> Tally {
@@ -248,13 +252,13 @@ fn replay_file(name: &[u8]) -> Tally {
     with_lattice(&text[..size])
 }
 
-pub fn replay(name: &[u8]) {
+pub fn replay_locators(name: &[u8]) {
     let tally = replay_file(name);
     report::print_differences(name, tally);
 }
 
 // A file whose records are all wrong on purpose.
-pub fn replay_wrong(name: &[u8]) {
+pub fn replay_wrong_locators(name: &[u8]) {
     let tally = replay_file(name);
     report::print_noticed(name, tally);
 }

@@ -2,6 +2,7 @@
 // records that are wrong on purpose, with those counted that were noticed.
 mod arithmetic;
 mod lattices;
+mod lengths;
 mod locators;
 mod marks;
 mod meshes;
@@ -54,10 +55,10 @@ fn kind_of(number: u64) -> Kind {
 // The record that starts at a place: the cursor behind it, which is bad where something differs.
 fn replay_record(kind: Kind, text: &[u8], start: usize) -> Cursor {
     match kind {
-        Kind::MulAdd => arithmetic::mul_add(text, start),
-        Kind::Sqrt => arithmetic::sqrt(text, start),
-        Kind::Integral => arithmetic::integral(text, start),
-        Kind::TotalOrder => arithmetic::total_order(text, start),
+        Kind::MulAdd => arithmetic::replay_mul_add(text, start),
+        Kind::Sqrt => arithmetic::replay_sqrt(text, start),
+        Kind::Integral => arithmetic::replay_integral(text, start),
+        Kind::TotalOrder => arithmetic::replay_total_order(text, start),
         Kind::FaceChoice => queries::face_choice(text, start),
         Kind::AnalyticQuery => queries::analytic_query(text, start),
         Kind::Lattice => lattices::lattice(text, start, false),
@@ -66,7 +67,7 @@ fn replay_record(kind: Kind, text: &[u8], start: usize) -> Cursor {
         Kind::Mesh => meshes::mesh(text, start),
         Kind::Renumbering => renumberings::renumbering(text, start),
         Kind::GridQuery => queries::grid_query(text, start),
-        Kind::MinimumNumber => arithmetic::minimum_number(text, start),
+        Kind::MinimumNumber => arithmetic::replay_minimum_number(text, start),
     }
 }
 
@@ -140,11 +141,11 @@ fn main() {
     replay(b"renumberings", 10);
     replay(b"grid_queries", 11);
     replay(b"minimum_number", 12);
-    locators::replay(b"locators_1");
-    locators::replay(b"locators_2");
-    locators::replay(b"locators_3");
-    locators::replay(b"locators_7");
-    locators::replay(b"locators_20");
+    locators::replay_locators(b"locators_1");
+    locators::replay_locators(b"locators_2");
+    locators::replay_locators(b"locators_3");
+    locators::replay_locators(b"locators_7");
+    locators::replay_locators(b"locators_20");
     replay_wrong(b"wrong_records");
-    locators::replay_wrong(b"wrong_locators");
+    locators::replay_wrong_locators(b"wrong_locators");
 }

@@ -4,25 +4,14 @@ use records::Cursor;
 // A mark that was read, and the cursor behind it.
 pub struct Mark {
     pub lists_ascend: bool,
-    pub at: usize,
-    pub good: bool,
+    pub behind: Cursor,
 }
 
-impl Mark {
-    pub fn cursor(self) -> Cursor {
-        Cursor {
-            at: self.at,
-            good: self.good,
-        }
-    }
-}
-
-pub fn take(text: &[u8], cursor: Cursor) -> Mark {
+pub fn take_mark(text: &[u8], cursor: Cursor) -> Mark {
     let word = records::take(text, cursor);
     Mark {
         lists_ascend: word.value == 1,
-        at: word.at,
-        good: word.good & (word.value < 2),
+        behind: word.cursor().only_if(word.value < 2),
     }
 }
 
@@ -33,7 +22,7 @@ fn mark_word(lists_ascend: bool) -> u64 {
     0
 }
 
-pub fn expect(text: &[u8], cursor: Cursor, lists_ascend: bool) -> Cursor {
+pub fn expect_mark(text: &[u8], cursor: Cursor, lists_ascend: bool) -> Cursor {
     records::expect(text, cursor, mark_word(lists_ascend))
 }
 
@@ -47,5 +36,5 @@ pub fn expect_answer(
 ) -> Cursor {
     let behind_refusal = records::expect_u32(text, cursor, refusal);
     let behind_index = records::expect(text, behind_refusal, index as u64);
-    expect(text, behind_index, lists_ascend)
+    expect_mark(text, behind_index, lists_ascend)
 }

@@ -1,4 +1,6 @@
 // Any meshes, also such as some row refuses: the call that reads whether the lists ascend, walk and grid.
+use crate::lengths::take_grid_lengths;
+use crate::lengths::take_mesh_lengths;
 use crate::marks;
 use crate::places::F64_BEFORE;
 use crate::places::FACTOR;
@@ -19,7 +21,7 @@ fn replay_walk(
     order: &mut [u32],
     queue: &mut [u32],
 ) -> Cursor {
-    let answer = c_api::koshirga_walk(positions, starts, entries, order, queue);
+    let answer = c_api::meshes::koshirga_walk(positions, starts, entries, order, queue);
     let answered = records::expect_u32(text, cursor, answer.refusal);
     let read = records::expect_u32(text, answered, answer.entries_read);
     let index = records::expect(text, read, answer.index as u64);
@@ -114,7 +116,7 @@ fn replay_grid(
     triangle_starts: &mut [u32],
     triples: &mut [u16],
 ) -> Cursor {
-    let answer = c_api::koshirga_build_grid(
+    let answer = c_api::grids::koshirga_build_grid(
         positions,
         starts,
         entries,
@@ -150,17 +152,21 @@ fn cut_grid(
     triangle_starts: &mut [u32],
     triples: &mut [u16],
 ) -> Cursor {
-    let a = records::take_length(text, cursor, cell_starts.len());
-    let b = records::take_length(text, a.cursor(), cell_ids.len());
-    let c = records::take_length(text, b.cursor(), triangle_starts.len());
-    let d = records::take_length(text, c.cursor(), triples.len());
-    let a_end = a.places;
-    let b_end = b.places;
-    let c_end = c.places;
-    let d_end = d.places;
+    let lengths = take_grid_lengths(
+        text,
+        cursor,
+        cell_starts,
+        cell_ids,
+        triangle_starts,
+        triples,
+    );
+    let a_end = lengths.cell_starts;
+    let b_end = lengths.cell_ids;
+    let c_end = lengths.triangle_starts;
+    let d_end = lengths.triples;
     replay_grid(
         text,
-        d.cursor(),
+        lengths.behind,
         hashed,
         positions,
         starts,
@@ -206,19 +212,25 @@ fn reading(
     starts: &[u32],
     entries: &[u16],
 ) -> Cursor {
-    let before = marks::take(text, cursor);
+    let before = marks::take_mark(text, cursor);
     let mut lists_ascend = before.lists_ascend;
-    let answer = c_api::koshirga_mark_ascending(positions, starts, entries, &mut lists_ascend);
+    let answer = c_api::meshes::koshirga_mark_ascending(
+        positions,
+        starts,
+        entries,
+        &mut lists_ascend,
+    );
     marks::expect_answer(
         text,
-        before.cursor(),
+        before.behind,
         answer.refusal,
         answer.index,
         lists_ascend,
     )
 }
 
-fn read_slices(
+// The three slices of a mesh.
+pub fn read_mesh(
     text: &[u8],
     cursor: Cursor,
     positions: &mut [f64],
@@ -230,6 +242,20 @@ fn read_slices(
     records::read_u16s(text, behind_starts, entries)
 }
 
+// The same after a call.
+pub fn expect_mesh(
+    text: &[u8],
+    cursor: Cursor,
+    hashed: bool,
+    positions: &[f64],
+    starts: &[u32],
+    entries: &[u16],
+) -> Cursor {
+    let behind_positions = records::expect_f64s(text, cursor, positions, hashed);
+    let behind_starts = records::expect_u32s(text, behind_positions, starts, hashed);
+    records::expect_u16s(text, behind_starts, entries, hashed)
+}
+
 // The slices of a mesh; then the reading of its lists, its walk, and its grid.
 fn replay_mesh(
     text: &[u8],
@@ -238,8 +264,8 @@ fn replay_mesh(
     starts: &mut [u32],
     entries: &mut [u16],
 ) -> Cursor {
-    let behind_slices = read_slices(text, cursor, positions, starts, entries);
-    let behind_reading = reading(text, behind_slices, positions, starts, entries);
+    let behind_mesh = read_mesh(text, cursor, positions, starts, entries);
+    let behind_reading = reading(text, behind_mesh, positions, starts, entries);
     let behind_walk = walk(text, behind_reading, false, positions, starts, entries);
     grid(text, behind_walk, false, positions, starts, entries)
 }
@@ -252,15 +278,13 @@ fn cut_mesh(
     starts: &mut [u32],
     entries: &mut [u16],
 ) -> Cursor {
-    let p = records::take_length(text, Cursor::new(start), positions.len());
-    let s = records::take_length(text, p.cursor(), starts.len());
-    let e = records::take_length(text, s.cursor(), entries.len());
-    let p_end = p.places;
-    let s_end = s.places;
-    let e_end = e.places;
+    let lengths = take_mesh_lengths(text, Cursor::new(start), positions, starts, entries);
+    let p_end = lengths.positions;
+    let s_end = lengths.starts;
+    let e_end = lengths.entries;
     replay_mesh(
         text,
-        e.cursor(),
+        lengths.behind,
         &mut positions[..p_end],
         &mut starts[..s_end],
         &mut entries[..e_end],

@@ -1,4 +1,5 @@
 // Queries of any grids and id tables, also such as some row refuses.
+use crate::lengths::take_grid_lengths;
 use crate::places::F64_BEFORE;
 use crate::places::FACTOR;
 use crate::places::MARGIN;
@@ -18,7 +19,7 @@ pub fn face_choice(text: &[u8], start: usize) -> Cursor {
     let first = records::take(text, k.cursor());
     let second = records::take(text, first.cursor());
     let third = records::take(text, second.cursor());
-    let answer = c_api::koshirga_choose_face(
+    let answer = c_api::lattices::koshirga_choose_face(
         i.value == 1,
         j.value == 1,
         k.value == 1,
@@ -78,9 +79,9 @@ pub fn analytic_answers(
     ids: &[u16],
     direction: Vector3,
 ) -> Cursor {
-    let located = c_api::koshirga_analytic_locate(frequency, ids, direction);
+    let located = c_api::lattices::koshirga_analytic_locate(frequency, ids, direction);
     let behind_located = expect_analytic(text, cursor, located);
-    let nearest = c_api::koshirga_analytic_nearest(frequency, ids, direction);
+    let nearest = c_api::lattices::koshirga_analytic_nearest(frequency, ids, direction);
     let answered = records::expect_u32(text, behind_located, nearest.refusal);
     records::expect_u32(text, answered, nearest.id)
 }
@@ -97,7 +98,7 @@ pub fn grid_answers(
     triples: &[u16],
     direction: Vector3,
 ) -> Cursor {
-    let nearest = c_api::koshirga_grid_nearest(
+    let nearest = c_api::grids::koshirga_grid_nearest(
         positions,
         FACTOR,
         MARGIN,
@@ -108,7 +109,7 @@ pub fn grid_answers(
         direction,
     );
     let behind_nearest = expect_nearest(text, cursor, nearest);
-    let located = c_api::koshirga_grid_locate(
+    let located = c_api::grids::koshirga_grid_locate(
         positions,
         FACTOR,
         MARGIN,
@@ -122,11 +123,10 @@ pub fn grid_answers(
     expect_located(text, behind_nearest, located)
 }
 
-// The three components of a direction.
+// The three components of a direction, and the cursor behind them.
 pub struct Read {
     pub direction: Vector3,
-    pub at: usize,
-    pub good: bool,
+    pub behind: Cursor,
 }
 
 pub fn read_direction(text: &[u8], cursor: Cursor) -> Read {
@@ -139,17 +139,7 @@ pub fn read_direction(text: &[u8], cursor: Cursor) -> Read {
             records::double(y.value),
             records::double(z.value),
         ),
-        at: z.at,
-        good: z.good,
-    }
-}
-
-impl Read {
-    pub fn cursor(self) -> Cursor {
-        Cursor {
-            at: self.at,
-            good: self.good,
-        }
+        behind: z.cursor(),
     }
 }
 
@@ -157,7 +147,7 @@ impl Read {
 fn replay_analytic(text: &[u8], cursor: Cursor, frequency: u32, ids: &mut [u16]) -> Cursor {
     let behind_ids = records::read_u16s(text, cursor, ids);
     let read = read_direction(text, behind_ids);
-    analytic_answers(text, read.cursor(), frequency, ids, read.direction)
+    analytic_answers(text, read.behind, frequency, ids, read.direction)
 }
 
 // n, and the id table's length.
@@ -195,7 +185,7 @@ fn ask(
         let read = read_direction(text, Cursor { at, good });
         let next = grid_answers(
             text,
-            read.cursor(),
+            read.behind,
             positions,
             side,
             cell_starts,
@@ -211,8 +201,8 @@ fn ask(
     Cursor { at, good }
 }
 
-// The slices of a grid.
-fn read_slices(
+// The positions, and the four slices of a grid.
+fn read_grid(
     text: &[u8],
     cursor: Cursor,
     positions: &mut [f64],
@@ -229,7 +219,7 @@ fn read_slices(
 }
 
 // The side and the slices; then the directions.
-fn replay_grid(
+fn replay_grid_query(
     text: &[u8],
     cursor: Cursor,
     positions: &mut [f64],
@@ -239,7 +229,7 @@ fn replay_grid(
     triples: &mut [u16],
 ) -> Cursor {
     let side = records::take_u32(text, cursor);
-    let behind = read_slices(
+    let behind = read_grid(
         text,
         side.cursor(),
         positions,
@@ -261,7 +251,7 @@ fn replay_grid(
 }
 
 // The lengths of positions, cell starts, cell ids, triangle starts and triples.
-fn cut_grid(
+fn cut_grid_query(
     text: &[u8],
     start: usize,
     positions: &mut [f64],
@@ -271,18 +261,22 @@ fn cut_grid(
     triples: &mut [u16],
 ) -> Cursor {
     let p = records::take_length(text, Cursor::new(start), positions.len());
-    let a = records::take_length(text, p.cursor(), cell_starts.len());
-    let b = records::take_length(text, a.cursor(), cell_ids.len());
-    let c = records::take_length(text, b.cursor(), triangle_starts.len());
-    let d = records::take_length(text, c.cursor(), triples.len());
-    let p_end = p.places;
-    let a_end = a.places;
-    let b_end = b.places;
-    let c_end = c.places;
-    let d_end = d.places;
-    replay_grid(
+    let lengths = take_grid_lengths(
         text,
-        d.cursor(),
+        p.cursor(),
+        cell_starts,
+        cell_ids,
+        triangle_starts,
+        triples,
+    );
+    let p_end = p.places;
+    let a_end = lengths.cell_starts;
+    let b_end = lengths.cell_ids;
+    let c_end = lengths.triangle_starts;
+    let d_end = lengths.triples;
+    replay_grid_query(
+        text,
+        lengths.behind,
         &mut positions[..p_end],
         &mut cell_starts[..a_end],
         &mut cell_ids[..b_end],
@@ -297,7 +291,7 @@ pub fn grid_query(text: &[u8], start: usize) -> Cursor {
     let mut cell_ids = [U16_BEFORE; 1024];
     let mut triangle_starts = [U32_BEFORE; 64];
     let mut triples = [U16_BEFORE; 4096];
-    cut_grid(
+    cut_grid_query(
         text,
         start,
         &mut positions,

@@ -1,5 +1,7 @@
 // Calls of the renumbering, also such as some row refuses.
+use crate::lengths::take_mesh_lengths;
 use crate::marks;
+use crate::meshes;
 use crate::places::F64_BEFORE;
 use crate::places::U8_BEFORE;
 use crate::places::U16_BEFORE;
@@ -7,7 +9,7 @@ use crate::places::U32_BEFORE;
 use records::Cursor;
 
 // A refused call leaves the scratch as it was.
-fn scratch_fits(
+fn scratch_kept_if_refused(
     refusal: u32,
     sources: &[u32],
     old_starts: &[u32],
@@ -38,8 +40,8 @@ fn expect_left(
     done: &[u8],
     held: &[f64],
 ) -> Cursor {
-    let fits = scratch_fits(refusal, sources, old_starts, old_entries, done, held);
-    marks::expect_answer(text, cursor, refusal, index, lists_ascend).only_if(fits)
+    let kept = scratch_kept_if_refused(refusal, sources, old_starts, old_entries, done, held);
+    marks::expect_answer(text, cursor, refusal, index, lists_ascend).only_if(kept)
 }
 
 // The mark before the call; then the call.
@@ -58,9 +60,9 @@ fn call(
     done: &mut [u8],
     held: &mut [f64],
 ) -> Cursor {
-    let before = marks::take(text, cursor);
+    let before = marks::take_mark(text, cursor);
     let mut lists_ascend = before.lists_ascend;
-    let answer = c_api::koshirga_renumber(
+    let answer = c_api::meshes::koshirga_renumber(
         positions,
         starts,
         entries,
@@ -76,7 +78,7 @@ fn call(
     );
     expect_left(
         text,
-        before.cursor(),
+        before.behind,
         answer.refusal,
         answer.index,
         lists_ascend,
@@ -161,22 +163,8 @@ fn with_scratch(
     )
 }
 
-fn expect_slices(
-    text: &[u8],
-    cursor: Cursor,
-    positions: &[f64],
-    starts: &[u32],
-    entries: &[u16],
-    values: &[f64],
-) -> Cursor {
-    let behind_positions = records::expect_f64s(text, cursor, positions, false);
-    let behind_starts = records::expect_u32s(text, behind_positions, starts, false);
-    let behind_entries = records::expect_u16s(text, behind_starts, entries, false);
-    records::expect_f64s(text, behind_entries, values, false)
-}
-
 // The call, and the slices after it.
-fn renumber(
+fn expect_renumbered(
     text: &[u8],
     cursor: Cursor,
     positions: &mut [f64],
@@ -194,26 +182,11 @@ fn renumber(
         values,
         permutation,
     );
-    expect_slices(text, answered, positions, starts, entries, values)
+    let behind_mesh = meshes::expect_mesh(text, answered, false, positions, starts, entries);
+    records::expect_f64s(text, behind_mesh, values, false)
 }
 
-// The slices of mesh, data and permutation.
-fn read_slices(
-    text: &[u8],
-    cursor: Cursor,
-    positions: &mut [f64],
-    starts: &mut [u32],
-    entries: &mut [u16],
-    values: &mut [f64],
-    permutation: &mut [u32],
-) -> Cursor {
-    let behind_positions = records::read_f64s(text, cursor, positions);
-    let behind_starts = records::read_u32s(text, behind_positions, starts);
-    let behind_entries = records::read_u16s(text, behind_starts, entries);
-    let behind_values = records::read_f64s(text, behind_entries, values);
-    records::read_u32s(text, behind_values, permutation)
-}
-
+// The slices of mesh, data and permutation; then the call.
 fn replay_renumbering(
     text: &[u8],
     cursor: Cursor,
@@ -223,16 +196,10 @@ fn replay_renumbering(
     values: &mut [f64],
     permutation: &mut [u32],
 ) -> Cursor {
-    let behind = read_slices(
-        text,
-        cursor,
-        positions,
-        starts,
-        entries,
-        values,
-        permutation,
-    );
-    renumber(
+    let behind_mesh = meshes::read_mesh(text, cursor, positions, starts, entries);
+    let behind_values = records::read_f64s(text, behind_mesh, values);
+    let behind = records::read_u32s(text, behind_values, permutation);
+    expect_renumbered(
         text,
         behind,
         positions,
@@ -244,7 +211,7 @@ fn replay_renumbering(
 }
 
 // The lengths of positions, starts, entries, values and permutation.
-fn cut(
+fn cut_renumbering(
     text: &[u8],
     start: usize,
     positions: &mut [f64],
@@ -253,14 +220,12 @@ fn cut(
     values: &mut [f64],
     permutation: &mut [u32],
 ) -> Cursor {
-    let p = records::take_length(text, Cursor::new(start), positions.len());
-    let s = records::take_length(text, p.cursor(), starts.len());
-    let e = records::take_length(text, s.cursor(), entries.len());
-    let v = records::take_length(text, e.cursor(), values.len());
+    let lengths = take_mesh_lengths(text, Cursor::new(start), positions, starts, entries);
+    let v = records::take_length(text, lengths.behind, values.len());
     let q = records::take_length(text, v.cursor(), permutation.len());
-    let p_end = p.places;
-    let s_end = s.places;
-    let e_end = e.places;
+    let p_end = lengths.positions;
+    let s_end = lengths.starts;
+    let e_end = lengths.entries;
     let v_end = v.places;
     let q_end = q.places;
     replay_renumbering(
@@ -280,7 +245,7 @@ pub fn renumbering(text: &[u8], start: usize) -> Cursor {
     let mut entries = [U16_BEFORE; 1024];
     let mut values = [F64_BEFORE; 1024];
     let mut permutation = [U32_BEFORE; 64];
-    cut(
+    cut_renumbering(
         text,
         start,
         &mut positions,

@@ -32,12 +32,12 @@ square-and-remainder x h l rest left m p q r =
     omega arith
 
 -- the program's test of the candidate h * 2 ^ 22 + l with the remainder m, and of the root q with the remainder n that it was corrected to
-pub accepted : (x h l rest left m q n : ℕ) → 2 ^ 62 ≤ x → h < 2 ^ 32 → l < 2 ^ 26
+pub candidate-accepted : (x h l rest left m q n : ℕ) → 2 ^ 62 ≤ x → h < 2 ^ 32 → l < 2 ^ 26
     → (rest + h * h) % 2 ^ 64 ≡ x → (left + h * l) % 2 ^ 64 ≡ rest * 2 ^ 21 % 2 ^ 64 → (m + l * l) % 2 ^ 64 ≡ left * 2 ^ 23 % 2 ^ 64
     → q ≤ h * 2 ^ 22 + l + 1 → q * q + n ≡ (h * 2 ^ 22 + l) * (h * 2 ^ 22 + l) + m
     → (ltb rest (2 ^ 38) && ltb left (2 ^ 41) && leb n (q * 2)) ≡ true
     → (n ≤ 2 * q) × (q * q + n ≡ x * 2 ^ 44)
-accepted x h l rest left m q n big H L e f g near same test =
+candidate-accepted x h l rest left m q n big H L e f g near same test =
     let bounds = ltb rest (2 ^ 38) && ltb left (2 ^ 41) in
     let passed : T (bounds && leb n (q * 2)) = subst T (sym test) tt in
     let both = and-l bounds (leb n (q * 2)) passed in

@@ -296,10 +296,10 @@ positive-finite f x t p =
     value-finite (squareRoot f x) false (result f (u .count) (u .some)) (2 ^ low f) (root-value f x u)
 
 -- what the root of x is to a value v: where v lies below it, their middle is not above √x, and where v lies above it, not below √x
-abbrev Nearest : Float → Float → Float → Type 0
-Nearest x v q = (T (lt v q) → MiddleAtMostRoot x v q) × (T (lt q v) → MiddleAtLeastRoot x v q)
+abbrev NoneNearer : Float → Float → Float → Type 0
+NoneNearer x v q = (T (lt v q) → MiddleAtMostRoot x v q) × (T (lt q v) → MiddleAtLeastRoot x v q)
 
-positive-nearest : (f : Format) (x : Float) → T (fits f x) → T (positive x) → (s : Bool) (m : ℕ) (e : ℤ) → T (fits f (fin s m e)) → T (le (fin false 0 (pos 0)) (fin s m e)) → Nearest x (fin s m e) (squareRoot f x)
+positive-nearest : (f : Format) (x : Float) → T (fits f x) → T (positive x) → (s : Bool) (m : ℕ) (e : ℤ) → T (fits f (fin s m e)) → T (le (fin false 0 (pos 0)) (fin s m e)) → NoneNearer x (fin s m e) (squareRoot f x)
 unfolding radicand
 positive-nearest f x t p s m e ft z =
     let u = units-of f x t p in
@@ -335,7 +335,7 @@ not-below-zero true true a b z o t = none a b (o tt) (ltb→lt b a t)
     none : (a b : ℕ) → a ≡ 0 → b < a → ⊥
     none a b z h = omega arith
 
-zero-nearest : (f : Format) (s : Bool) (e : ℤ) (w : Bool) (n : ℕ) (d : ℤ) → T (le (fin false 0 (pos 0)) (fin w n d)) → Nearest (fin s 0 e) (fin w n d) (squareRoot f (fin s 0 e))
+zero-nearest : (f : Format) (s : Bool) (e : ℤ) (w : Bool) (n : ℕ) (d : ℤ) → T (le (fin false 0 (pos 0)) (fin w n d)) → NoneNearer (fin s 0 e) (fin w n d) (squareRoot f (fin s 0 e))
 unfolding squareRoot lt
 zero-nearest f s e w n d z = (
   λ (less : T (beneath w (n * up d * down e) s (0 * up e * down d))).

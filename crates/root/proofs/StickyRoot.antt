@@ -147,9 +147,9 @@ significand-lt q m w e l = square-lt-back q (2 ^ 54) (let k : q * q < 2 ^ 54 * 2
 abbrev pub StickyBit : ℕ → ℕ → Type 0
 StickyBit m s = ((m ≡ 0) × (s ≡ 0)) ⊎ ((m ≡ 0 → ⊥) × (s ≡ 1))
 
-pub sticky-lt : (m s : ℕ) → StickyBit m s → s < 2 ^ 10
-sticky-lt m s (inl (z, e)) = omega arith
-sticky-lt m s (inr (z, e)) = omega arith
+pub sticky-root-lt : (m s : ℕ) → StickyBit m s → s < 2 ^ 10
+sticky-root-lt m s (inl (z, e)) = omega arith
+sticky-root-lt m s (inr (z, e)) = omega arith
 
 sticky-zero : (m s : ℕ) → StickyBit m s → m ≡ 0 → s ≡ 0
 sticky-zero m s (inl (z, e)) h = e
@@ -163,7 +163,7 @@ pub word-rounds : (q m w h s : ℕ) → m ≤ 2 * q → q * q + m ≡ w * 2 ^ 44
     → round binary64 false ((q * 2 ^ 10 + s) * 2 ^ (h + 1739)) (2 ^ highWordScale) ≡ scaledRoot binary64 (w * 2 ^ (2 * h + 1010))
 unfolding radicand
 word-rounds q m w h s le e l bit =
-    root-rounds q m (w * 2 ^ 44) (2 ^ (h + 483)) le e (pow-pos (h + 483)) h s refl (full-significand q m w le e l) (sticky-lt m s bit) (sticky-zero m s bit) (zero-sticky m s bit) ∙ ap (scaledRoot binary64) scaled
+    root-rounds q m (w * 2 ^ 44) (2 ^ (h + 483)) le e (pow-pos (h + 483)) h s refl (full-significand q m w le e l) (sticky-root-lt m s bit) (sticky-zero m s bit) (zero-sticky m s bit) ∙ ap (scaledRoot binary64) scaled
   where
     scaled : w * 2 ^ 44 * (2 ^ (h + 483) * 2 ^ (h + 483)) ≡ w * 2 ^ (2 * h + 1010)
     scaled =

@@ -1,6 +1,6 @@
 -- Square root. Definitions only.
 use Prim.Native.Nat.{ℕ, zero, suc, _+_, _*_, _/_, _^_}
-use mathlib.Core.Bool.{Bool, true, false, cond}
+use mathlib.Core.Bool.{false, cond}
 use lib.Dec.{leb, eqb}
 use lib.Ieee.{Float, nan, inf, fin, Format, low, up, down, size, round}
 

@@ -19,7 +19,7 @@ pub struct RootState {
 
 // One more digit of the root, from two more of the radicand.
 fn next_digit(s: RootState) -> RootState
-    requires { ⌜ (s .remainder ≤ 2 * s .significand) × (s .significand < 2 ^ 59) ⌝ }
+    requires { ⌜ s .remainder ≤ 2 * s .significand ⌝ ∗ ⌜ s .significand < 2 ^ 59 ⌝ }
     ensures { λ r. ⌜ (r .remainder ≤ 2 * r .significand) × (r .significand ≤ 2 * s .significand + 1) × (scaledRadicand r ≡ 4 * scaledRadicand s) ⌝ }
 {
     let radicand = s.radicand % 0x4000_0000_0000_0000 * 4;
@@ -43,7 +43,7 @@ fn next_digit(s: RootState) -> RootState
 // `count` more digits of the root, in a loop: nothing here reaches itself by calls, so that a trace
 // of them stays flat.
 fn next_digits(s: RootState, count: u64) -> RootState
-    requires { ⌜ (s .remainder ≤ 2 * s .significand) × ((s .significand + 1) * 2 ^ count ≤ 2 ^ 60) ⌝ }
+    requires { ⌜ s .remainder ≤ 2 * s .significand ⌝ ∗ ⌜ (s .significand + 1) * 2 ^ count ≤ 2 ^ 60 ⌝ }
     ensures { λ r. ⌜ (r .remainder ≤ 2 * r .significand) × (scaledRadicand r ≡ 4 ^ count * scaledRadicand s) ⌝ }
 {
     let mut state = s;
@@ -80,7 +80,7 @@ fn correct_root(s: RootAndRemainder) -> RootAndRemainder
 // A step of Newton's method towards 2^31 / sqrt(x), for x = word / 2^30 from 1 to 4: z times
 // (3 - x * (z / 2^31)^2) / 2.
 fn newton_step(word: u64, z: u64) -> u64
-    requires { ⌜ (word < 2 ^ 32) × (z < 2 ^ 32) ⌝ }
+    requires { ⌜ word < 2 ^ 32 ⌝ ∗ ⌜ z < 2 ^ 32 ⌝ }
     ensures { λ r. ⌜ r < 2 ^ 32 ⌝ }
 {
     let square = z * z / 0x8000_0000 % 0x1_0000_0000;
@@ -170,7 +170,7 @@ fn root_digits(radicand: u64) -> RootAndRemainder
 // sticky bit for those further down: they are all 0 exactly where no remainder is left. The 54
 // digits are brought to the top of a word.
 fn root_of_word(radicand: u64, half: u64) -> f64
-    requires { ⌜ (2 ^ 62 ≤ radicand) × (half < 2 ^ 31) ⌝ }
+    requires { ⌜ 2 ^ 62 ≤ radicand ⌝ ∗ ⌜ half < 2 ^ 31 ⌝ }
     ensures { λ r. ⌜ r ≡ scaledRoot binary64 (radicand * 2 ^ (2 * half + 1010)) ⌝ }
 {
     let root = root_digits(radicand);

@@ -4,7 +4,7 @@ use mathlib.Core.Logic.{_⊎_, inl, inr}
 use Prim.Native.Nat.{ℕ, _+_, _-_, _*_, _<_}
 use native.Mathlib.Nat.{le-of-eq, le-of-lt, lt-of-le-of-lt, lt-of-lt-of-le, eq-or-lt-of-le, eq-of-mul-eq-mul-right, lt-of-mul-lt-mul-right, mul-lt-mul-of-pos-right, mul-comm, mul-sub, add-mul, add-comm, add-zero, sub-zero, zero-mul}
 use native.Mathlib.Omega.{arith}
-use mathlib.Core.Bool.{Bool, true, false, _&&_, cond, true≢false, false≢true}
+use mathlib.Core.Bool.{Bool, true, false, _&&_, cond, true≢false, false≢true, and-true, and-false}
 use lib.Dec.{ltb, lit<}
 use lib.IntN.{pos}
 use lib.Ieee.{fin, Format, binary32, binary64, round, sum}
@@ -52,10 +52,6 @@ sum-opposite-gt f s t a b c e h =
     sum-opposite f s t a b c e
     ∙ ap (λ (x : Bool). cond x (round f t (b - a) c) (round f (s && ltb b a) (a - b) c)) (ltb-false a b (le-of-lt h))
     ∙ ap (λ (x : Bool). round f x (a - b) c) (ap (λ (x : Bool). s && x) (ltb-true b a h) ∙ and-true s)
-  where
-    and-true : (s : Bool) → (s && true) ≡ s
-    and-true true = refl
-    and-true false = refl
 
 pub sum-opposite-lt : (f : Format) (s t : Bool) (a b c : ℕ) → (s ≡ t → ⊥) → a < b → sum f s a t b c ≡ round f t (b - a) c
 sum-opposite-lt f s t a b c e h = sum-opposite f s t a b c e ∙ ap (λ (x : Bool). cond x (round f t (b - a) c) (round f (s && ltb b a) (a - b) c)) (ltb-true a b h)
@@ -68,10 +64,6 @@ sum-opposite-eq f s t a b c e h C =
     ∙ ap (λ (x : Bool). round f x (a - b) c) (ap (λ (x : Bool). s && x) (ltb-false b a (le-of-eq h)) ∙ and-false s)
     ∙ ap (λ (x : ℕ). round f false x c) (let k : a - b ≡ 0 = omega arith in k)
     ∙ round-zero f false c C
-  where
-    and-false : (s : Bool) → (s && false) ≡ false
-    and-false true = refl
-    and-false false = refl
 
 -- ---- it commutes
 pub sum-comm : (f : Format) (s t : Bool) (a b c : ℕ) → 0 < c → sum f s a t b c ≡ sum f t b s a c

@@ -18,7 +18,7 @@ use lib.Ieee.Exact.{HasValue, units-val}
 use lib.Ieee.Order.{drop, kept, round-mono}
 use lib.Ieee.Scale.{grid, overflow, finite}
 use lib.Ieee.Positive.{den, den-pos}
-use Rattle.binary64.proofs.Flags.{or-left}
+use Rattle.booleans.proofs.Booleans.{or-l}
 use Rattle.binary64.proofs.Negation.{neg-round}
 use Rattle.binary64.proofs.NotNan.{value-finite}
 use Rattle.rounding.proofs.RoundSticky.{pow-le-back, size-exact}
@@ -283,7 +283,7 @@ unequal s m e (fin z n d) c L p h v t =
     let same : m * up e * down d ≡ n * up d * down e = eq-of-mul-eq-mul-right L p (m * up e * down d) (n * up d * down e)
     (mul-right-comm (m * up e) (down d) L ∙ ap (λ (x : ℕ). x * down d) h ∙ mul-right-comm c (down e) (down d) ∙ ap (λ (x : ℕ). x * down e) (sym (v .1)) ∙ mul-right-comm (n * up d) L (down e)) in
     T-not (eqb (m * up e * down d) (n * up d * down e) && (Bool·beq s z || eqb (m * up e * down d) 0)) t
-    (and-i (eqb (m * up e * down d) (n * up d * down e)) (Bool·beq s z || eqb (m * up e * down d) 0) (eq→eqb same) (or-left (Bool·beq s z) (eqb (m * up e * down d) 0) (subst (λ (u : Bool). T (Bool·beq s u)) (sym (v .0)) (beq-refl s))))
+    (and-i (eqb (m * up e * down d) (n * up d * down e)) (Bool·beq s z || eqb (m * up e * down d) 0) (eq→eqb same) (or-l (Bool·beq s z) (eqb (m * up e * down d) 0) (subst (λ (u : Bool). T (Bool·beq s u)) (sym (v .0)) (beq-refl s))))
 
 module _ (f : Format) (s : Bool) (a b : ℕ) (B : 0 < b) (H : InRange f a b) where
   -- a value of the fraction's sign

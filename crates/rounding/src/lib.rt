@@ -58,7 +58,7 @@ pub struct NormalisedSignificand {
 
 // An unpacked significand brought to its top bit by the count of its leading zeros.
 pub fn normalise_significand(significand: u64, exponent: u64) -> NormalisedSignificand
-    requires { ⌜ (0 < significand) × (significand < 2 ^ 53) × (exponent < 2046) ⌝ }
+    requires { ⌜ 0 < significand ⌝ ∗ ⌜ significand < 2 ^ 53 ⌝ ∗ ⌜ exponent < 2046 ⌝ }
     ensures { λ r. ⌜ (r .significand * 2 ^ (r .exponent) ≡ significand * 2 ^ exponent * 2 ^ 64) × (2 ^ 63 ≤ r .significand) × (r .significand % 2048 ≡ 0) × (r .exponent < 2100) ⌝ }
 {
     let zeros = u64::leading_zeros(significand) as u64;
@@ -124,7 +124,7 @@ pub fn round_and_pack_word(negative: bool, significand: u64, exponent: u64) -> f
 // significand * 2^exponent / 2^2276 rounded (IEEE 754-2019, 4.3.1), for a significand of two words
 // above 0. It is brought to its top bit first.
 pub fn round_and_pack(negative: bool, significand: TwoWords, exponent: u64) -> f64
-    requires { ⌜ (0 < value significand) × (exponent < 2 ^ 32) ⌝ }
+    requires { ⌜ 0 < value significand ⌝ ∗ ⌜ exponent < 2 ^ 32 ⌝ }
     ensures { λ r. ⌜ r ≡ round binary64 negative (value significand * 2 ^ exponent) (2 ^ productScale) ⌝ }
 {
     let normalised = words::normalise_words(significand);

@@ -8,11 +8,10 @@ use lib.ListN.{getD}
 use Rattle.sequences.specs.Range.{allBelow, sumBelow}
 use Rattle.sequences.specs.Tabulate.{tabulate, block, overwrite}
 use Rattle.sequences.specs.Starts.{concatenate, startOf, startsOf, part}
-use Rattle.sequences.specs.Permutation.{isFresh, isPermutation, placeOf, inverse, compose, movedBlocks, movedPairs}
+use Rattle.sequences.specs.Permutation.{isFresh, isPermutation, lastPlaceOf, inverse, compose, movedBlocks, movedPairs}
 use Rattle.sequences.specs.Ascending.{insert, insertNew, sort}
 use Rattle.sequences.specs.Filter.{filter, filterRange}
 use Rattle.sequences.specs.Least.{least}
-use Rattle.sequences.specs.Appearance.{firstBelow, firstSlot, isFirst, appearances, appearanceId}
 use Rattle.sequences.specs.Slabs.{mapSlabs}
 
 -- three lists, the second empty
@@ -44,7 +43,7 @@ unfolding isPermutation isFresh allBelow
 repeat-case = refl
 
 pub inverse-case : inverse turn ≡ 1 ∷ 2 ∷ 0 ∷ []
-unfolding inverse placeOf tabulate
+unfolding inverse lastPlaceOf tabulate
 inverse-case = refl
 
 -- twice round
@@ -54,12 +53,12 @@ compose-case = refl
 
 -- blocks of two: block 0 goes to 2, 1 to 0, 2 to 1
 pub moved-blocks-case : movedBlocks {A = ℕ} 2 turn (10 ∷ 11 ∷ 20 ∷ 21 ∷ 30 ∷ 31 ∷ []) 0 ≡ 20 ∷ 21 ∷ 30 ∷ 31 ∷ 10 ∷ 11 ∷ []
-unfolding movedBlocks concatenate block inverse placeOf tabulate
+unfolding movedBlocks concatenate block inverse lastPlaceOf tabulate
 moved-blocks-case = refl
 
 -- pairs of two ids that change places: both indices move
 pub moved-pairs-case : movedPairs {A = ℕ} (1 ∷ 0 ∷ []) (1 ∷ 2 ∷ 3 ∷ 4 ∷ []) 0 ≡ 4 ∷ 3 ∷ 2 ∷ 1 ∷ []
-unfolding movedPairs movedBlocks concatenate block inverse placeOf tabulate
+unfolding movedPairs movedBlocks concatenate block inverse lastPlaceOf tabulate
 moved-pairs-case = refl
 
 -- two slabs of two, each turned round, and a tail
@@ -88,11 +87,3 @@ filter-range-case = refl
 pub least-case : least {A = ℕ} (λ i. getD (5 ∷ 3 ∷ 3 ∷ []) i 0) 0 (1 ∷ 2 ∷ []) ≡ 1
 unfolding least
 least-case = refl
-
--- keys a, b, a, c, b: ids 0, 1, 0, 2, 1
-abbrev keys : ℕ → ℕ
-keys s = getD (6 ∷ 4 ∷ 6 ∷ 9 ∷ 4 ∷ []) s 0
-
-pub appearance-case : tabulate 5 (appearanceId (λ s t. eqb (keys s) (keys t))) ≡ 0 ∷ 1 ∷ 0 ∷ 2 ∷ 1 ∷ []
-unfolding tabulate appearanceId appearances isFirst firstSlot firstBelow filterRange filter
-appearance-case = refl

@@ -1,23 +1,22 @@
 -- Laws of the elements that pass a test. Assumes nothing.
--- Members: `filter-member`, `member-filter`, `filter-range-member`, `member-filter-range`. An ascending list with the right members is the filter of the range: `filter-range-unique`.
--- A loop over the numbers: `filter-range-true`, `filter-range-false`; the number v goes to the place `length (filterRange p v)`: `filter-range-place`; a count is the length: `filter-range-count`.
+-- Members: `filter-member`, `member-filter`, `filter-range-member`, `member-filter-range`.
+-- A loop over the numbers: the number v goes to the place `length (filterRange p v)`, by `filter-range-place`.
 -- Ids renamed by a bijection: `filter-range-bijection`, "the earlier ones taken through p and sorted".
-use Prim.Native.Nat.{ℕ, zero, suc, _+_, _-_, _≤_, _<_}
+use Prim.Native.Nat.{ℕ, suc, _+_, _-_, _≤_, _<_}
 use native.Mathlib.Omega.{arith}
 use mathlib.Core.Path.{_≡_, refl, sym, ap, subst, _∙_}
 use mathlib.Core.Logic.{_⊎_, inl, inr}
 use mathlib.Core.Bool.{Bool, true, false, cond}
 use mathlib.Core.List.{List, [], _∷_, _++_, map, flatMap, append-nil, append-assoc, List·Memᴰ, List·Memᴰ·head, List·Memᴰ·tail, List·Memᴰ·cases-cons, List·Memᴰ·append-cases, List·Memᴰ·not-nil, Memᴰ·append-left, Memᴰ·append-right, Memᴰ·of-map, Memᴰ·map, Memᴰ·cast}
-use lib.ListN.{length, getD, length-append, length-map}
+use lib.ListN.{length, getD, length-append}
 use lib.Seq.{getD-append-seam}
-use Rattle.sequences.specs.Range.{sumBelow}
 use Rattle.sequences.specs.Tabulate.{tabulate}
 use Rattle.sequences.specs.Permutation.{Bijection}
 use Rattle.sequences.specs.Ascending.{Pairwise, Ascending, sort}
 use Rattle.sequences.specs.Filter.{filter, filterRange}
 use Rattle.sequences.proofs.Tabulate.{tabulate-add, tabulate-suc, tabulate-member, member-tabulate}
 use Rattle.sequences.proofs.Permutation.{bijection-injective}
-use Rattle.sequences.proofs.Ascending.{pairwise-tabulate, ascending-distinct, ascending-unique, sort-unique, length-sort, distinct-map}
+use Rattle.sequences.proofs.Ascending.{pairwise-tabulate, ascending-distinct, sort-unique, distinct-map}
 
 module _ {A : Type 0} where
   pub filter-member : (p : A → Bool) (l : List A) (a : A) → List·Memᴰ a (filter p l) → List·Memᴰ a l × (p a ≡ true)
@@ -115,12 +114,6 @@ pub filter-range-ascending : (p : ℕ → Bool) (n : ℕ) → Ascending (filterR
 unfolding filterRange
 filter-range-ascending p n = pairwise-filter (λ x y. x < y) p (tabulate n (λ i. i)) (pairwise-tabulate (λ x y. x < y) n (λ i. i) (λ i j lij lj. lij))
 
-pub filter-range-unique : (p : ℕ → Bool) (n : ℕ) (l : List ℕ) → Ascending l → ((x : ℕ) → List·Memᴰ x l → (x < n) × (p x ≡ true)) → ((x : ℕ) → x < n → p x ≡ true → List·Memᴰ x l) → l ≡ filterRange p n
-filter-range-unique p n l a f g = ascending-unique l (filterRange p n) a (filter-range-ascending p n) (record {
-  forth = λ x m. let r = f x m in member-filter-range p n x (r .0) (r .1);
-  back = λ x m. let r = filter-range-member p n x m in g x (r .0) (r .1);
-})
-
 pub filter-range-zero : (p : ℕ → Bool) → filterRange p 0 ≡ []
 unfolding filterRange filter tabulate
 filter-range-zero p = refl
@@ -129,10 +122,6 @@ pub filter-range-true : (p : ℕ → Bool) (n : ℕ) → p n ≡ true → filter
 unfolding filterRange
 filter-range-true p n e = ap (filter p) (tabulate-suc n (λ i. i)) ∙ filter-true p (tabulate n (λ i. i)) n e
 
-pub filter-range-false : (p : ℕ → Bool) (n : ℕ) → p n ≡ false → filterRange p (suc n) ≡ filterRange p n
-unfolding filterRange
-filter-range-false p n e = ap (filter p) (tabulate-suc n (λ i. i)) ∙ filter-false p (tabulate n (λ i. i)) n e
-
 pub filter-range-extensional : (p q : ℕ → Bool) (n : ℕ) → ((i : ℕ) → i < n → p i ≡ q i) → filterRange p n ≡ filterRange q n
 unfolding filterRange
 filter-range-extensional p q n h = filter-extensional p q (tabulate n (λ i. i)) (λ a m. let r = tabulate-member n (λ i. i) a m in h a (omega arith))
@@ -140,22 +129,6 @@ filter-range-extensional p q n h = filter-extensional p q (tabulate n (λ i. i))
 filter-range-add : (p : ℕ → Bool) (m n : ℕ) → filterRange p (m + n) ≡ filterRange p m ++ filter p (tabulate n (λ i. m + i))
 unfolding filterRange
 filter-range-add p m n = ap (filter p) (tabulate-add m n (λ i. i)) ∙ filter-append p (tabulate m (λ i. i)) (tabulate n (λ i. m + i))
-
--- how many there are
-pub filter-range-count : (p : ℕ → Bool) (n : ℕ) → length (filterRange p n) ≡ sumBelow (λ i. cond (p i) 1 0) n
-unfolding sumBelow
-filter-range-count p zero = ap length (filter-range-zero p)
-filter-range-count p (suc n) = go (p n) refl (filter-range-count p n)
-  where
-    go : (b : Bool) → p n ≡ b → length (filterRange p n) ≡ sumBelow (λ i. cond (p i) 1 0) n → length (filterRange p (suc n)) ≡ sumBelow (λ i. cond (p i) 1 0) n + cond b 1 0
-    go true e r = let k = ap length (filter-range-true p n e) ∙ length-append (filterRange p n) (n ∷ []) in omega arith
-    go false e r = let k = ap length (filter-range-false p n e) in omega arith
-
-pub filter-range-monotone : (p : ℕ → Bool) (m n : ℕ) → m ≤ n → length (filterRange p m) ≤ length (filterRange p n)
-filter-range-monotone p m n h =
-    let e : m + (n - m) ≡ n = omega arith in
-    let k = ap length (ap (filterRange p) (sym e) ∙ filter-range-add p m (n - m)) ∙ length-append (filterRange p m) (filter p (tabulate (n - m) (λ i. m + i))) in
-    omega arith
 
 -- the number v goes behind those before it: there is room for it, and it stands there in the end
 pub filter-range-place : (p : ℕ → Bool) (n v d : ℕ) → v < n → p v ≡ true → (length (filterRange p v) < length (filterRange p n)) × (getD (filterRange p n) (length (filterRange p v)) d ≡ v)
@@ -186,7 +159,3 @@ filter-range-bijection {n} {p} {b} t h =
     back y m =
         let k = filter-range-member (λ i. t (b i)) n y m in
         Memᴰ·cast (sym (h .right-inverse y (k .0))) (Memᴰ·map p (member-filter-range t n (b y) (h .inverse-maps y (k .0)) (k .1)))
-
--- as many as before
-pub filter-range-bijection-length : {n : ℕ} {p b : ℕ → ℕ} (t : ℕ → Bool) → Bijection n p b → length (filterRange (λ i. t (b i)) n) ≡ length (filterRange t n)
-filter-range-bijection-length {n} {p} t h = ap length (sym (filter-range-bijection t h)) ∙ length-sort (map p (filterRange t n)) ∙ length-map (filterRange t n) p

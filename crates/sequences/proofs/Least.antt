@@ -89,14 +89,6 @@ module _ {A : Type 0} (key : A → ℕ) where
           rest (inl z) = ih without-x y (List·Memᴰ·head z) q
           rest (inr h) = in-tail (List·Memᴰ·cases-cons h)
 
-  -- a member whose key is least, and which alone has it, is the one
-  pub least-alone : (best : A) (l : List A) (a : A) → List·Memᴰ a (best ∷ l) → ((y : A) → List·Memᴰ y (best ∷ l) → key a ≤ key y) → Alone key a (best ∷ l) → least key best l ≡ a
-  least-alone best l a m low alone =
-      let i = least-member best l in
-      let one = low (least key best l) i in
-      let two = least-lowest best l a m in
-      alone (least key best l) i (omega arith)
-
   -- one turn of a scan: what is left to compare
   pub least-scan : (best : A) (l : List A) (i : ℕ) (d : A) → i < length l → least key best (drop i l) ≡ least key (cond (ltb (key (getD l i d)) (key best)) (getD l i d) best) (drop (suc i) l)
   unfolding least
@@ -127,7 +119,7 @@ module _ {A B : Type 0} (key : A → ℕ) (key-after : B → ℕ) (f : A → B) 
       omega arith
 
   -- and where one alone has it, the later element is f of the earlier
-  pub least-related : Alone key (least key best l) (best ∷ l) → least key-after best-after after ≡ f (least key best l)
+  pub least-related : Alone key (best ∷ l) (least key best l) (key (least key best l)) → least key-after best-after after ≡ f (least key best l)
   least-related alone =
       let u = back (least key-after best-after after) (least-member key-after best-after after) in
       sym (u .2) ∙ ap f (alone (u .0) (u .1) (sym (same-key (u .0) (u .1)) ∙ ap key-after (u .2) ∙ least-related-key))

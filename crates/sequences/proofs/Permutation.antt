@@ -2,13 +2,13 @@
 -- The test: `is-permutation-sound`, `is-permutation-complete`; its loop: `marks-none`, `marks-step`, `marks-all`, and `refused-length`, `refused-range`, `refused-repeat`.
 -- A permutation as a function with its inverse: `permutation-bijection`; composed, turned round: `bijection-compose`, `bijection-flip`.
 -- The inverse: `inverse-unique`; its loop: `inverting-none`, `inverting-step`, `inverting-all`.
--- Lists of ids renumbered: `relabelled-at`, `relabelled-nondecreasing`, `relabelled-total`, `relabelled-compose`; for the loop that rewrites starts and entries `relabelled-rows-next`, `relabelled-rows-total`.
--- A moved list: read by `moved-blocks-at` (and `moved-at`), recognised by `moved-blocks-unique` (and `moved-unique`), repeated by `moved-blocks-compose`.
+-- Lists of ids renumbered: `relabelled-at`, `relabelled-nondecreasing`, `relabelled-total`, `relabelled-compose`.
+-- A moved list: read by `moved-blocks-at` (and `moved-at`), recognised by `moved-blocks-unique`, repeated by `moved-blocks-compose`.
 use Prim.Native.Nat.{ℕ, zero, suc, _+_, _-_, _*_, _≤_, _<_}
 use native.Mathlib.Nat.{not-suc-le-zero}
 use native.Mathlib.Omega.{arith}
 use native.Mathlib.Decide.{ℕ-discrete, decLt}
-use mathlib.Core.Path.{_≡_, refl, sym, ap, subst, _∙_}
+use mathlib.Core.Path.{_≡_, refl, sym, ap, _∙_}
 use mathlib.Core.Logic.{_⊎_, inl, inr, _≢_}
 use mathlib.Core.Bool.{Bool, true, false, not, cond}
 use mathlib.Core.List.{List, [], _∷_, map, map-id, map-map, List·Memᴰ, List·Memᴰ·head, List·Memᴰ·tail, Memᴰ·of-map}
@@ -16,14 +16,15 @@ use lib.Dec.{ltb, eqb}
 use lib.ListN.{length, getD, set, length-set, length-map}
 use lib.Seq.{ext-getD, getD-set-same, getD-set-other}
 use borrow.Author.Tests.{ltb-true, eqb-true, eqb-false, not-true, eq-eqb, ne-eqb, lt-ltb, le-ltb}
+use Rattle.booleans.proofs.Booleans.{and-split, and-intro, and-right-fails}
 use Rattle.sequences.specs.Range.{allBelow, sumBelow, Updated}
 use Rattle.sequences.specs.Tabulate.{block, overwrite}
-use Rattle.sequences.specs.Starts.{startOf, part, CompressedRows}
+use Rattle.sequences.specs.Starts.{startOf}
 use Rattle.sequences.specs.Ascending.{Nondecreasing, sort}
-use Rattle.sequences.specs.Permutation.{at, Bijection, IsPermutation, isFresh, isPermutation, Marks, placeOf, inverse, Inverting, identity, compose, movedBlocks, moved, movedPairs, relabelled}
-use Rattle.sequences.proofs.Range.{and-split, and-intro, and-right-fails, last-or-below, all-below-at, all-below-intro, all-below-suc, all-below-fails, sum-extensional, sum-injection, pigeonhole}
+use Rattle.sequences.specs.Permutation.{at, Bijection, IsPermutation, isFresh, isPermutation, Marks, lastPlaceOf, inverse, Inverting, identity, compose, movedBlocks, moved, movedPairs, relabelled}
+use Rattle.sequences.proofs.Range.{last-or-below, all-below-at, all-below-intro, all-below-suc, all-below-fails, sum-extensional, sum-injection, pigeonhole}
 use Rattle.sequences.proofs.Tabulate.{length-tabulate, tabulate-at, length-block, block-at, block-unique, getD-map, length-overwrite, overwrite-at, overwrite-beyond}
-use Rattle.sequences.proofs.Starts.{concatenate-even-length, concatenate-even-at, concatenate-even-unique, start-extensional, start-suc, part-length, part-start}
+use Rattle.sequences.proofs.Starts.{concatenate-even-length, concatenate-even-at, concatenate-even-unique, start-extensional}
 use Rattle.sequences.proofs.Ascending.{sort-members, length-sort, sort-nondecreasing}
 use Rattle.sequences.proofs.Sorted.{sort-map-sort}
 
@@ -41,15 +42,6 @@ bijection-compose {p} {b} {q} {c} h k = record {
   inverse-maps = λ v lt. h .inverse-maps (c v) (k .inverse-maps v lt);
   left-inverse = λ v lt. ap b (k .left-inverse (p v) (h .maps v lt)) ∙ h .left-inverse v lt;
   right-inverse = λ v lt. ap q (h .right-inverse (c v) (k .inverse-maps v lt)) ∙ k .right-inverse v lt;
-}
-
--- only what p and b do below n matters
-pub bijection-extensional : {n : ℕ} {p b p-other b-other : ℕ → ℕ} → ((v : ℕ) → v < n → p v ≡ p-other v) → ((v : ℕ) → v < n → b v ≡ b-other v) → Bijection n p b → Bijection n p-other b-other
-bijection-extensional {n} {p} {b} {p-other} {b-other} e f h = record {
-  maps = λ v lt. subst (λ (x : ℕ). x < n) (e v lt) (h .maps v lt);
-  inverse-maps = λ v lt. subst (λ (x : ℕ). x < n) (f v lt) (h .inverse-maps v lt);
-  left-inverse = λ v lt. ap b-other (sym (e v lt)) ∙ sym (f (p v) (h .maps v lt)) ∙ h .left-inverse v lt;
-  right-inverse = λ v lt. ap p-other (sym (f v lt)) ∙ sym (e (b v) (h .inverse-maps v lt)) ∙ h .right-inverse v lt;
 }
 
 pub bijection-injective : {n : ℕ} {p b : ℕ → ℕ} → Bijection n p b → (u v : ℕ) → u < n → v < n → p u ≡ p v → u ≡ v
@@ -147,8 +139,8 @@ refused-repeat {n} {q} {marked} {v} lt h low e =
     (all-below-fails (λ u. not (eqb (at q u) (at q v))) v (t .0) (t .1) (rw (eq-eqb (at q (t .0)) (at q v) (t .2)) refl))))
 
 -- ---- the inverse
-place-or-none : (q : List ℕ) (k i : ℕ) → ((placeOf q k i < k) × (at q (placeOf q k i) ≡ i)) ⊎ ((u : ℕ) → u < k → at q u ≢ i)
-unfolding placeOf
+place-or-none : (q : List ℕ) (k i : ℕ) → ((lastPlaceOf q k i < k) × (at q (lastPlaceOf q k i) ≡ i)) ⊎ ((u : ℕ) → u < k → at q u ≢ i)
+unfolding lastPlaceOf
 place-or-none q zero i = inr (λ u lt e. not-suc-le-zero lt)
 place-or-none q (suc k) i = go (eqb (at q k) i) refl (place-or-none q k i)
   where
@@ -156,8 +148,8 @@ place-or-none q (suc k) i = go (eqb (at q k) i) refl (place-or-none q k i)
     nowhere e f u h (inl s) = eqb-false (at q k) i e (ap (at q) (sym s) ∙ h)
     nowhere e f u h (inr lt) = f u lt h
 
-    go : (b : Bool) → eqb (at q k) i ≡ b → ((placeOf q k i < k) × (at q (placeOf q k i) ≡ i)) ⊎ ((u : ℕ) → u < k → at q u ≢ i)
-        → ((cond b k (placeOf q k i) < suc k) × (at q (cond b k (placeOf q k i)) ≡ i)) ⊎ ((u : ℕ) → u < suc k → at q u ≢ i)
+    go : (b : Bool) → eqb (at q k) i ≡ b → ((lastPlaceOf q k i < k) × (at q (lastPlaceOf q k i) ≡ i)) ⊎ ((u : ℕ) → u < k → at q u ≢ i)
+        → ((cond b k (lastPlaceOf q k i) < suc k) × (at q (cond b k (lastPlaceOf q k i)) ≡ i)) ⊎ ((u : ℕ) → u < suc k → at q u ≢ i)
     go true e r = inl (omega arith, eqb-true (at q k) i e)
     go false e (inl r) = inl (omega arith, r .1)
     go false e (inr f) = inr (λ u lt h. nowhere e f u h (last-or-below u k lt))
@@ -183,10 +175,10 @@ identity-permutation n = bijection-permutation (identity n) (bijection-identity 
 
 module _ {n : ℕ} {q : List ℕ} (h : IsPermutation n q) where
   -- each id has its place
-  pub permutation-surjective : (i : ℕ) → i < n → (placeOf q n i < n) × (at q (placeOf q n i) ≡ i)
+  pub permutation-surjective : (i : ℕ) → i < n → (lastPlaceOf q n i < n) × (at q (lastPlaceOf q n i) ≡ i)
   permutation-surjective i lt = go (place-or-none q n i)
     where
-      go : ((placeOf q n i < n) × (at q (placeOf q n i) ≡ i)) ⊎ ((u : ℕ) → u < n → at q u ≢ i) → (placeOf q n i < n) × (at q (placeOf q n i) ≡ i)
+      go : ((lastPlaceOf q n i < n) × (at q (lastPlaceOf q n i) ≡ i)) ⊎ ((u : ℕ) → u < n → at q u ≢ i) → (lastPlaceOf q n i < n) × (at q (lastPlaceOf q n i) ≡ i)
       go (inl r) = r
       go (inr f) = absurd (pigeonhole (at q) n i (h .below) (h .injective) lt f)
 
@@ -194,9 +186,9 @@ module _ {n : ℕ} {q : List ℕ} (h : IsPermutation n q) where
   unfolding inverse
   length-inverse = length-tabulate (length q) _ ∙ h .size
 
-  inverse-at : (i : ℕ) → i < n → at (inverse q) i ≡ placeOf q n i
+  inverse-at : (i : ℕ) → i < n → at (inverse q) i ≡ lastPlaceOf q n i
   unfolding inverse
-  inverse-at i lt = tabulate-at (length q) _ i 0 (omega (arith, h .size)) ∙ ap (λ (k : ℕ). placeOf q k i) (h .size)
+  inverse-at i lt = tabulate-at (length q) _ i 0 (omega (arith, h .size)) ∙ ap (λ (k : ℕ). lastPlaceOf q k i) (h .size)
 
   pub permutation-bijection : Bijection n (at q) (at (inverse q))
   permutation-bijection = record {
@@ -204,7 +196,7 @@ module _ {n : ℕ} {q : List ℕ} (h : IsPermutation n q) where
     inverse-maps = λ i lt. let r = permutation-surjective i lt in omega (arith, inverse-at i lt);
     left-inverse = λ v lt.
         let r = permutation-surjective (at q v) (h .below v lt) in
-        inverse-at (at q v) (h .below v lt) ∙ h .injective (placeOf q n (at q v)) v (r .0) lt (r .1);
+        inverse-at (at q v) (h .below v lt) ∙ h .injective (lastPlaceOf q n (at q v)) v (r .0) lt (r .1);
     right-inverse = λ i lt. ap (at q) (inverse-at i lt) ∙ permutation-surjective i lt .1;
   }
 
@@ -334,10 +326,6 @@ module _ {A : Type 0} where
     pub moved-from : (i : ℕ) → i < n → getD (moved q l d) i d ≡ getD l (at (inverse q) i) d
     moved-from i li = sym (single (moved q l d) i) ∙ moved-blocks-from h 1 l d i 0 li (omega arith) ∙ single l (at (inverse q) i)
 
-    pub moved-unique : (after : List A) → length after ≡ n → ((v : ℕ) → v < n → getD after (at q v) d ≡ getD l v d) → after ≡ moved q l d
-    moved-unique after e g = moved-blocks-unique h 1 l d after (omega arith) (λ v k lv lk. let z : k ≡ 0 = omega arith in
-        ap (λ (j : ℕ). getD after (at q v * 1 + j) d) z ∙ single after (at q v) ∙ g v lv ∙ sym (ap (λ (j : ℕ). getD l (v * 1 + j) d) z ∙ single l v))
-
   -- ---- an element for each pair
   module _ {n : ℕ} {q : List ℕ} (h : IsPermutation n q) (l : List A) (d : A) where
     row-length : (v : ℕ) → v < length q → length (moved q (block (length q) l d (at (inverse q) v)) d) ≡ n
@@ -450,18 +438,6 @@ relabelled-compose {n} {p} {q} h k lists below i lt =
     ∙ ap sort (map-map (at q) (at p) (lists v)
     ∙ map-extensional (λ x. at q (at p x)) (at (compose q p)) (lists v) (λ x m. sym (compose-at q p x (let b = below v lv x m in omega (arith, h .size)))))
     ∙ sym (relabelled-at c lists v lv) ∙ ap (relabelled (compose q p) lists) (permutation-bijection c .right-inverse i lt)
-
--- ---- the same, read from starts and entries: what a loop that rewrites them stores
-module _ {n : ℕ} {q : List ℕ} (h : IsPermutation n q) {S E : List ℕ} (rows : CompressedRows n S E) (i : ℕ) (lt : i < n) where
-  -- the list at i ends as far behind its start as the old one did
-  pub relabelled-rows-next : startOf (relabelled q (part S E)) (suc i) ≡ startOf (relabelled q (part S E)) i + (at S (suc (at (inverse q) i)) - at S (at (inverse q) i))
-  relabelled-rows-next =
-      start-suc (relabelled q (part S E)) i
-      ∙ ap (λ (k : ℕ). startOf (relabelled q (part S E)) i + k) (length-relabelled h (part S E) i ∙ part-length n S E rows (at (inverse q) i) (permutation-bijection h .inverse-maps i lt))
-
--- the entries are as many as they were: they can be rewritten in place
-pub relabelled-rows-total : {n : ℕ} {q S E : List ℕ} → IsPermutation n q → CompressedRows n S E → startOf (relabelled q (part S E)) n ≡ length E
-relabelled-rows-total {n} {q} {S} {E} h rows = relabelled-total h (part S E) ∙ part-start n S E rows n (omega arith) ∙ rows .last
 
 -- the list at the new id i comes from one old list
 pub relabelled-extensional : (q : List ℕ) (lists lists′ : ℕ → List ℕ) (i : ℕ) → lists (at (inverse q) i) ≡ lists′ (at (inverse q) i) → relabelled q lists i ≡ relabelled q lists′ i

@@ -1,6 +1,6 @@
 -- Laws of tests and sums over the numbers below n. Assumes nothing.
 -- A loop that tests each index: `all-below-intro` or `all-below-suc` when it passes, `all-below-fails` when it refuses. A passed test gives its fact by `all-below-at`.
--- A search for one that passes: `some-below-intro`, `some-below-fails`, `some-below-at`. A search for the first that fails: `first-failing-at` when it is found, and what it is by `first-failing`.
+-- A search for one that passes: `some-below-intro`, `some-below-at`. A search for the first that fails: `first-failing-at` when it is found, and what it is by `first-failing`.
 -- Marks kept as numbers: `nonzero-marked`, `zero-unmarked`, `marked-by-set`. A sum in another order: `sum-bijection` (Permutation); a one-to-one choice: `sum-injection`, and from it `pigeonhole`.
 use Prim.Native.Nat.{ℕ, zero, suc, _+_, _*_, _≤_, _<_}
 use native.Mathlib.Nat.{not-suc-le-zero, eq-or-lt-of-le, le-of-suc-le-suc, mul-add}
@@ -13,35 +13,9 @@ use mathlib.Core.List.{List}
 use lib.Dec.{ltb, eqb}
 use lib.ListN.{length, getD, set}
 use lib.Seq.{getD-set-same, getD-set-other}
-use borrow.Author.Tests.{ltb-true, ltb-false, eq-eqb, ne-eqb, eqb-true, eqb-false, not-true, not-false}
+use borrow.Author.Tests.{ltb-true, ltb-false, eq-eqb, ne-eqb, eqb-true, eqb-false}
+use Rattle.booleans.proofs.Booleans.{true-or-false, and-split, and-intro, and-right-fails, or-split, or-left, or-right, true-false}
 use Rattle.sequences.specs.Range.{allBelow, firstFailing, someBelow, sumBelow, Updated, nonzeroAt}
-
--- a Boolean is one of two
-pub true-or-false : (b : Bool) → (b ≡ true) ⊎ (b ≡ false)
-true-or-false true = inl refl
-true-or-false false = inr refl
-
-pub and-split : (a b : Bool) → a && b ≡ true → (a ≡ true) × (b ≡ true)
-and-split true b h = (refl, h)
-and-split false b h = let z : _≡_ {A = ℕ} 0 1 = cc in absurd (let y : ⊥ = omega arith in y)
-
-pub and-intro : (a b : Bool) → a ≡ true → b ≡ true → a && b ≡ true
-and-intro a b p q = rw (p, q) refl
-
-pub and-right-fails : (a b : Bool) → b ≡ false → a && b ≡ false
-and-right-fails true b h = h
-and-right-fails false b h = refl
-
-pub or-split : (a b : Bool) → a || b ≡ true → (a ≡ true) ⊎ (b ≡ true)
-or-split true b h = inl refl
-or-split false b h = inr h
-
-pub or-left : (a b : Bool) → a ≡ true → a || b ≡ true
-or-left a b h = rw h refl
-
-pub or-right : (a b : Bool) → b ≡ true → a || b ≡ true
-or-right true b h = refl
-or-right false b h = h
 
 pub last-or-below : (i n : ℕ) → i < suc n → (i ≡ n) ⊎ (i < n)
 last-or-below i n h = eq-or-lt-of-le (le-of-suc-le-suc h)
@@ -94,12 +68,6 @@ some-below-intro p (suc n) i lt h = go (some-below-intro p n i) (last-or-below i
     go : (i < n → p i ≡ true → someBelow p n ≡ true) → (i ≡ n) ⊎ (i < n) → someBelow p n || p n ≡ true
     go below (inl e) = or-right (someBelow p n) (p n) (ap p (sym e) ∙ h)
     go below (inr k) = or-left (someBelow p n) (p n) (below k h)
-
--- none passes
-pub some-below-fails : (p : ℕ → Bool) (n : ℕ) → ((i : ℕ) → i < n → p i ≡ false) → someBelow p n ≡ false
-unfolding someBelow
-some-below-fails p zero h = refl
-some-below-fails p (suc n) h = rw (some-below-fails p n (λ i lt. h i (omega arith)), h n (omega arith)) refl
 
 -- ---- a sum
 pub sum-extensional : (f g : ℕ → ℕ) (n : ℕ) → ((i : ℕ) → i < n → f i ≡ g i) → sumBelow f n ≡ sumBelow g n
@@ -190,21 +158,10 @@ pub zero-unmarked : (l : List ℕ) (i : ℕ) → getD l i 0 ≡ 0 → nonzeroAt 
 unfolding nonzeroAt
 zero-unmarked l i e = rw (eq-eqb (getD l i 0) 0 e) refl
 
-pub marked-nonzero : (l : List ℕ) (i : ℕ) → nonzeroAt l i ≡ true → getD l i 0 ≢ 0
-unfolding nonzeroAt
-marked-nonzero l i h = eqb-false (getD l i 0) 0 (not-true (eqb (getD l i 0) 0) h)
-
-pub unmarked-zero : (l : List ℕ) (i : ℕ) → nonzeroAt l i ≡ false → getD l i 0 ≡ 0
-unfolding nonzeroAt
-unmarked-zero l i h = eqb-true (getD l i 0) 0 (not-false (eqb (getD l i 0) 0) h)
-
 -- a mark is set
 pub marked-by-set : (n : ℕ) (l : List ℕ) (i : ℕ) → i < length l → Updated n (nonzeroAt l) (nonzeroAt (set l i 1)) i true
 unfolding nonzeroAt
 marked-by-set n l i lt = updated-through (λ k. not (eqb k 0)) (updated-by-set n l i 1 0 lt)
-
-pub true-false : (b : Bool) → b ≡ true → b ≡ false → ⊥
-true-false b t f = let z : _≡_ {A = ℕ} 0 1 = cc in omega arith
 
 -- ---- numbers compared
 pub below-or-from : (a b : ℕ) → (a < b) ⊎ (b ≤ a)

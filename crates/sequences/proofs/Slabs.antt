@@ -1,35 +1,21 @@
 -- Laws of lists of slabs. Assumes nothing.
 -- To read: `slab-of`, `slabs-tail`. To recognise: `slabs-unique`. One change after another: `slabs-compose`.
--- A loop that changes one slab after another in place: `slab-lent` says what the turn is lent, `slab-written` what it leaves, `slabs-written` what the last leaves.
-use Prim.Native.Nat.{ℕ, suc, _+_, _*_, _/_, _%_, _≤_, _<_}
+-- A loop that changes one slab after another in place: `slabs-written` says what the last leaves.
+use Prim.Native.Nat.{ℕ, _+_, _*_, _/_, _%_, _≤_, _<_}
 use native.Mathlib.Nat.{div-mul-le-self, div-lt-iff-lt-mul, div-add-mod', mod-lt, mul-le-mul-right}
 use native.Mathlib.Omega.{arith}
 use native.Mathlib.Decide.{decLt}
 use mathlib.Core.Path.{_≡_, sym, ap, _∙_}
-use mathlib.Core.List.{List, _++_}
-use lib.ListN.{length, getD, take, drop}
+use mathlib.Core.List.{List}
+use lib.ListN.{length, getD, drop}
 use lib.Seq.{ext-getD}
 use Rattle.sequences.specs.Tabulate.{block, overwrite}
 use Rattle.sequences.specs.Starts.{concatenate}
 use Rattle.sequences.specs.Slabs.{mapSlabs}
-use Rattle.sequences.proofs.Tabulate.{length-block, block-unique, blocks-agree, block-as-take, length-overwrite, overwrite-at, overwrite-beyond, drop-overwrite, overwrite-append}
-use Rattle.sequences.proofs.Starts.{concatenate-even-length, concatenate-even-at, concatenate-suc, concatenate-extensional}
+use Rattle.sequences.proofs.Tabulate.{length-block, block-unique, blocks-agree, length-overwrite, overwrite-at, overwrite-beyond, drop-overwrite}
+use Rattle.sequences.proofs.Starts.{concatenate-even-length, concatenate-even-at, concatenate-extensional}
 
 module _ {A : Type 0} where
-  -- ---- the loop: the slabs `after` are written over `old`, one after another
-  module _ (w : ℕ) (after : ℕ → List A) (old : List A) where
-    -- what the turn s is lent: the slab s as it was
-    pub slab-lent : (s : ℕ) (d : A) → ((t : ℕ) → t < s → length (after t) ≡ w) → suc s * w ≤ length old → take w (drop (s * w) (overwrite (concatenate s after) old)) ≡ block w old d s
-    slab-lent s d even room =
-        ap (take w) (drop-overwrite (concatenate s after) old (s * w) (concatenate-even-length s w after even)) ∙ sym (block-as-take w old d s room)
-
-    -- what it leaves
-    pub slab-written : (s : ℕ) → ((t : ℕ) → t < suc s → length (after t) ≡ w)
-        → take (s * w) (overwrite (concatenate s after) old) ++ after s ++ drop (s * w + w) (overwrite (concatenate s after) old) ≡ overwrite (concatenate (suc s) after) old
-    slab-written s even =
-        overwrite-append (concatenate s after) (after s) old (s * w) w (concatenate-even-length s w after (λ t lt. even t (omega arith))) (even s (omega arith))
-        ∙ ap (λ (l : List A). overwrite l old) (sym (concatenate-suc s after))
-
   -- ---- the whole
   module _ (w : ℕ) (change : List A → List A) (l : List A) (d : A) (keeps : (b : List A) → length b ≡ w → length (change b) ≡ w) where
     even : (s : ℕ) → s < length l / w → length (change (block w l d s)) ≡ w

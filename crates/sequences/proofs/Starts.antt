@@ -12,10 +12,10 @@ use mathlib.Core.List.{List, [], _∷_, _++_, flatten, append-nil, append-assoc,
 use lib.ListN.{length, getD, take, drop, length-append, List·getD-append}
 use lib.Seq.{slice, length-slice, ext-getD, getD-append-add, getD-take, getD-drop, take-append-le, take-all, drop-at}
 use Rattle.sequences.specs.Range.{sumBelow}
-use Rattle.sequences.specs.Tabulate.{tabulate, block}
+use Rattle.sequences.specs.Tabulate.{tabulate}
 use Rattle.sequences.specs.Starts.{concatenate, startOf, startsOf, part, blockPart, CompressedRows}
 use Rattle.sequences.proofs.Range.{last-or-below, sum-extensional, sum-below-monotone}
-use Rattle.sequences.proofs.Tabulate.{length-tabulate, tabulate-at, tabulate-unique, tabulate-elements, tabulate-extensional, getD-member, block-unique}
+use Rattle.sequences.proofs.Tabulate.{length-tabulate, tabulate-at, tabulate-elements, tabulate-extensional, getD-member}
 
 module _ {A : Type 0} where
   -- ---- starts
@@ -140,11 +140,6 @@ module _ {A : Type 0} where
       concatenate-unique n f l d (e ∙ sym (start-even n w f h))
       (λ v k lv lk. ap (λ (z : ℕ). getD l (z + k) d) (start-even v w f (λ u lu. h u (omega arith))) ∙ at-place v k lv (omega (arith, h v lv)))
 
-  -- the blocks of a list, one behind another, are the list
-  pub concatenate-blocks : (n w : ℕ) (l : List A) (d : A) → length l ≡ n * w → concatenate n (block w l d) ≡ l
-  unfolding block
-  concatenate-blocks n w l d e = sym (concatenate-even-unique n w (block w l d) l d (λ v lt. length-tabulate w (λ k. getD l (v * w + k) d)) e (λ v k lv lk. sym (tabulate-at w (λ k. getD l (v * w + k) d) k d lk)))
-
   -- ---- a list of lists
   pub flatten-append : (l r : List (List A)) → flatten (l ++ r) ≡ flatten l ++ flatten r
   unfolding flatten
@@ -167,14 +162,6 @@ module _ {A : Type 0} where
   -- lists of one width, flattened and cut again: triples are written and read so
   pub flatten-even-length : (w : ℕ) (ls : List (List A)) → ((x : List A) → List·Memᴰ x ls → length x ≡ w) → length (flatten ls) ≡ length ls * w
   flatten-even-length w ls h = ap length (flatten-concatenate ls) ∙ concatenate-even-length (length ls) w (λ i. getD ls i []) (λ v lt. h (getD ls v []) (getD-member ls v [] lt))
-
-  pub blocks-of-flatten : (w : ℕ) (ls : List (List A)) (d : A) → ((x : List A) → List·Memᴰ x ls → length x ≡ w) → tabulate (length ls) (block w (flatten ls) d) ≡ ls
-  blocks-of-flatten w ls d h = sym (tabulate-unique (length ls) (block w (flatten ls) d) ls [] refl (λ i lt.
-      block-unique w (flatten ls) d i (getD ls i []) (even i lt) (λ k lk.
-      sym (ap (λ (l : List A). getD l (i * w + k) d) (flatten-concatenate ls) ∙ concatenate-even-at (length ls) w (λ i. getD ls i []) even i k d lt lk))))
-    where
-      even : (i : ℕ) → i < length ls → length (getD ls i []) ≡ w
-      even i lt = h (getD ls i []) (getD-member ls i [] lt)
 
   -- ---- the part of a list between two places
   pub slice-of-concatenate : (n : ℕ) (f : ℕ → List A) (v : ℕ) → v < n → slice (startOf f v) (startOf f (suc v)) (concatenate n f) ≡ f v
@@ -229,11 +216,6 @@ module _ {A : Type 0} where
     unfolding startOf sumBelow
     part-start zero h = sym (r .first)
     part-start (suc v) h = let s = part-start v (omega arith) in let l = part-length v h in let t = r .ascend v h in omega arith
-
-    -- lists cut out of starts and entries have these starts and these entries
-    pub rows-starts : startsOf n (part S E) ≡ S
-    unfolding startsOf
-    rows-starts = sym (tabulate-unique (suc n) (startOf (part S E)) S 0 (r .size) (λ v lt. sym (part-start v (omega arith))))
 
     pub rows-entries : (d : A) → concatenate n (part S E) ≡ E
     rows-entries d = sym (concatenate-unique n (part S E) E d (sym (r .last) ∙ sym (part-start n (omega arith)))

@@ -1,7 +1,7 @@
 -- Laws of lists given by index, of blocks, and of loops that write from the front. Assumes nothing.
 -- To show that a list is a table: `tabulate-unique`. To read a table: `tabulate-at`, `length-tabulate`. Two lists are equal by their elements: the library's `ext-getD`.
 -- A loop that fills place k at turn k: `overwritten-none`, `overwritten-set` at each turn, `overwritten-all` at the end (the surplus is untouched), `overwritten-whole` where there is none.
--- Cleared marks: `cleared-unmarked`. A store of a whole block: `updated-by-sets`; for a vector `updated-by-three` and `block-three`.
+-- Cleared marks: `cleared-unmarked`. A store of a whole block: `updated-by-sets`; for a vector `updated-by-three`.
 use Prim.Native.Nat.{ℕ, zero, suc, _+_, _-_, _*_, _≤_, _<_}
 use native.Mathlib.Nat.{not-suc-le-zero, le-of-suc-le-suc, mul-le-mul-right}
 use native.Mathlib.Omega.{arith}
@@ -59,12 +59,6 @@ module _ {A : Type 0} where
       let e : m + suc n ≡ suc (m + n) = omega arith in
       ap (λ (k : ℕ). tabulate k f) e ∙ ap (λ (l : List A). l ++ (f (m + n) ∷ [])) (tabulate-add m n f)
       ∙ append-assoc (tabulate m f) (tabulate n (λ i. f (m + i))) (f (m + n) ∷ [])
-
-  pub take-tabulate : (m n : ℕ) (f : ℕ → A) → take m (tabulate (m + n) f) ≡ tabulate m f
-  take-tabulate m n f = ap (take m) (tabulate-add m n f) ∙ take-at (tabulate m f) (tabulate n (λ i. f (m + i))) m (length-tabulate m f)
-
-  pub drop-tabulate : (m n : ℕ) (f : ℕ → A) → drop m (tabulate (m + n) f) ≡ tabulate n (λ i. f (m + i))
-  drop-tabulate m n f = ap (drop m) (tabulate-add m n f) ∙ drop-at (tabulate m f) (tabulate n (λ i. f (m + i))) m (length-tabulate m f)
 
   -- ---- members are the elements at the places
   pub getD-member : (l : List A) (i : ℕ) (d : A) → i < length l → List·Memᴰ (getD l i d) l
@@ -134,11 +128,6 @@ module _ {A : Type 0} where
       apart : (j k : ℕ) → j ≢ i → k < w → Dec (j < i) → (j * w + k < i * w) ⊎ (i * w + length xs ≤ j * w + k)
       apart j k ne lt (yes h) = inl (omega (arith, mul-le-mul-right w h))
       apart j k ne lt (no h) = let g : suc i ≤ j = omega (arith, ne) in inr (omega (arith, mul-le-mul-right w g))
-
-  -- a vector: its block, and its three stores as code writes them
-  pub block-three : (l : List A) (d : A) (i : ℕ) → block 3 l d i ≡ getD l (i * 3) d ∷ getD l (i * 3 + 1) d ∷ getD l (i * 3 + 2) d ∷ []
-  unfolding block tabulate
-  block-three l d i = let e : i * 3 + 0 ≡ i * 3 = omega arith in rw e refl
 
   pub updated-by-three : (n : ℕ) (l : List A) (i : ℕ) (x y z d : A) → suc i * 3 ≤ length l
       → Updated n (block 3 l d) (block 3 (set (set (set l (i * 3) x) (i * 3 + 1) y) (i * 3 + 2) z) d) i (x ∷ y ∷ z ∷ [])
@@ -226,15 +215,6 @@ module _ {A : Type 0} where
   overwritten-whole {new} {old} e f o = overwritten-all e (omega arith) o ∙ overwrite-whole new old (omega arith)
 
 module _ {A B : Type 0} where
-  pub map-tabulate : (n : ℕ) (f : ℕ → A) (g : A → B) → map g (tabulate n f) ≡ tabulate n (λ i. g (f i))
-  unfolding tabulate
-  map-tabulate zero f g = refl
-  map-tabulate (suc n) f g = snoc (tabulate n f) (f n) ∙ ap (λ (l : List B). l ++ (g (f n) ∷ [])) (map-tabulate n f g)
-    where
-      snoc : (l : List A) (a : A) → map g (l ++ (a ∷ [])) ≡ map g l ++ (g a ∷ [])
-      snoc [] a = refl
-      snoc (x ∷ l) a = ap (λ (r : List B). g x ∷ r) (snoc l a)
-
   -- an element of a mapped list, whatever the two defaults
   pub getD-map : (f : A → B) (l : List A) (i : ℕ) (d : A) (e : B) → i < length l → getD (map f l) i e ≡ f (getD l i d)
   getD-map f [] i d e h = absurd (not-suc-le-zero h)

@@ -11,6 +11,6 @@ module _ {A : Type 0} where
   least key best [] = best
   least key best (x ∷ xs) = least key (cond (ltb (key x) (key best)) x best) xs
 
-  -- no other member of the list has the key of a: "one candidate alone"
-  abbrev pub Alone : (A → ℕ) → A → List A → Type 0
-  Alone key a l = (b : A) → List·Memᴰ b l → key b ≡ key a → b ≡ a
+  -- a alone of the list has the key k: "one candidate alone"
+  abbrev pub Alone : {K : Type 0} → (A → K) → List A → A → K → Type 0
+  Alone key l a k = (b : A) → List·Memᴰ b l → key b ≡ k → b ≡ a

@@ -46,13 +46,13 @@ pub record Marks (n : ℕ) (q : List ℕ) (marked : ℕ → Bool) (v : ℕ) : Ty
 
 -- ---- inverse, identity, composition
 -- the last of the first k places of q that holds i, 0 where none does
-unfoldable pub placeOf : List ℕ → ℕ → ℕ → ℕ
-placeOf q zero i = 0
-placeOf q (suc k) i = cond (eqb (at q k) i) k (placeOf q k i)
+unfoldable pub lastPlaceOf : List ℕ → ℕ → ℕ → ℕ
+lastPlaceOf q zero i = 0
+lastPlaceOf q (suc k) i = cond (eqb (at q k) i) k (lastPlaceOf q k i)
 
 -- the old id at each new one: the place of i in q, for each i
 unfoldable pub inverse : List ℕ → List ℕ
-inverse q = tabulate (length q) (placeOf q (length q))
+inverse q = tabulate (length q) (lastPlaceOf q (length q))
 
 -- the inverse being written over a buffer, after v places of q
 pub record Inverting (n : ℕ) (q old now : List ℕ) (v : ℕ) : Type 0 where

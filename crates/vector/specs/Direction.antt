@@ -1,10 +1,11 @@
 -- Rows 5 and 9 of document 01's table of refusals. Definitions only.
-use Prim.Native.Nat.{ℕ}
-use mathlib.Core.Bool.{Bool, true, false, _&&_, cond}
+use mathlib.Core.Bool.{Bool, false, _&&_}
 use lib.IntN.{pos, negsuc}
 use lib.Ieee.{Float, fin, le}
 use lib.Ieee.Scale.{finite}
-use Rattle.refusal.specs.Refusal.{refusal}
+use Rattle.refusal.specs.declared.Verdict.{Verdict}
+use Rattle.refusal.specs.declared.Verdict.the-variants.{Passed}
+use Rattle.refusal.specs.Refusal.{refusal, row, answer}
 use Rattle.vector.specs.declared.Vector3.{Vector3}
 use Rattle.vector.specs.declared.Direction.{Direction}
 use Rattle.vector.specs.declared.Direction.the-variants.{Refused, Accepted}
@@ -23,7 +24,11 @@ admissible v =
     finite (v .x) && finite (v .y) && finite (v .z)
     && (le leastSquaredLength (squaredLength v) && le (squaredLength v) greatestSquaredLength)
 
+-- Row 9, and then the next rows.
+abbrev pub directionRow : Vector3 → Verdict → Verdict
+directionRow v next = row (admissible v) (refusal 9) next
+
 -- A direction that passes row 9, or that row's refusal.
 unfoldable pub directionOf : Vector3 → Direction
 unfolding admissible
-directionOf v = cond (admissible v) (Accepted v) (Refused (refusal 9))
+directionOf v = answer (directionRow v Passed) Refused (Accepted v)

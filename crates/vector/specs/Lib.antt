@@ -1,2 +1,3 @@
 pub mod Vector
+pub mod Triangle
 pub mod Direction

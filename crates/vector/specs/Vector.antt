@@ -1,14 +1,20 @@
 -- Document 01, "Vectors". Each `add`, `sub`, `mul` and `div` is one operation of IEEE 754-2019, 5.4.1, rounded to nearest, ties to even (4.3.1). Definitions only.
-use lib.Ieee.{Float, binary64, ofBits, add, sub, mul, div}
+use mathlib.Core.List.{List, [], _∷_}
+use lib.Ieee.{Float, binary64, add, sub, mul, div}
+use Rattle.binary64.specs.Constants.{positiveZero}
 use Rattle.root.specs.Root.{squareRoot}
 use Rattle.vector.specs.declared.Vector3.{Vector3}
 
 abbrev pub vector : Float → Float → Float → Vector3
 vector x y z = record { x = x; y = y; z = z }
 
+-- The components in their order, as positions hold them.
+abbrev pub coordinates : Vector3 → List Float
+coordinates v = v .x ∷ v .y ∷ v .z ∷ []
+
 -- +0 in each component
 abbrev pub zeroVector : Vector3
-zeroVector = vector (ofBits binary64 0) (ofBits binary64 0) (ofBits binary64 0)
+zeroVector = vector positiveZero positiveZero positiveZero
 
 -- "A dot product is x·x' + y·y' + z·z', summed from the left."
 abbrev pub dotProduct : Vector3 → Vector3 → Float

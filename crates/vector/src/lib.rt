@@ -2,6 +2,7 @@
 // (IEEE 754-2019, 4.3.1).
 ghost use mathlib.Core.Path.{_≡_};
 ghost use Rattle.vector.specs.Vector.{vector, zeroVector, dotProduct, crossProduct, vectorDifference, vectorSum, vectorMultiple, vectorQuotient, squaredLength, lengthOf, normalized};
+ghost use Rattle.vector.specs.Triangle.{weights};
 ghost use Rattle.vector.specs.Direction.{admissible, directionOf};
 use refusal::Refusal;
 use root::sqrt;
@@ -114,6 +115,29 @@ impl Vector3 {
     {
         let squared = self.norm_squared();
         (squared >= 9.094947017729282379150390625e-13) & (squared <= 1099511627776.0)
+    }
+}
+
+// The ids of a triangle's corners, as both locators answer them.
+pub struct Triple {
+    pub first: u16,
+    pub second: u16,
+    pub third: u16,
+}
+
+// The weights of a triangle's corners, in their order.
+#[repr(C)]
+pub struct Weights {
+    pub u: f64,
+    pub v: f64,
+    pub w: f64,
+}
+
+impl Weights {
+    pub fn new(u: f64, v: f64, w: f64) -> Self
+        ensures { λ r. ⌜ r ≡ weights u v w ⌝ }
+    {
+        Self { u, v, w }
     }
 }
 

@@ -7,9 +7,9 @@ use mathlib.Core.Logic.{_⊎_, inl, inr}
 use mathlib.Core.Bool.{true, false}
 use mathlib.Core.List.{List, List·Memᴰ}
 use lib.ListN.{length}
+use Rattle.booleans.proofs.Booleans.{true-or-false}
 use Rattle.sequences.specs.Ascending.{isMember}
 use Rattle.sequences.specs.Permutation.{at, IsPermutation, inverse}
-use Rattle.sequences.proofs.Range.{true-or-false}
 use Rattle.sequences.proofs.Tabulate.{length-tabulate, tabulate-at, member-getD, getD-member}
 use Rattle.sequences.proofs.Ascending.{is-member-true, member-is-member}
 use Rattle.sequences.proofs.Permutation.{inverse-unique, inverse-permutation}

@@ -12,10 +12,11 @@ use lib.Dec.{eqb}
 use lib.ListN.{length, getD, set, take, drop, length-append, length-set, List·getD-append}
 use lib.Seq.{drop-cons, drop-drop, drop-append-add, append-snoc, set-append-seam, take-suc, getD-set-same, getD-set-other}
 use borrow.Author.Tests.{eq-eqb, ne-eqb, eqb-true}
+use Rattle.booleans.proofs.Booleans.{true-or-false}
 use Rattle.sequences.specs.Tabulate.{tabulate, overwrite}
 use Rattle.sequences.specs.Ascending.{isMember}
 use Rattle.sequences.specs.Permutation.{IsPermutation}
-use Rattle.sequences.proofs.Range.{pigeonhole, true-or-false}
+use Rattle.sequences.proofs.Range.{pigeonhole}
 use Rattle.sequences.proofs.Tabulate.{length-tabulate, tabulate-at, tabulate-unique, getD-member, length-overwrite, overwrite-at, take-overwrite}
 use Rattle.sequences.proofs.Ascending.{pairwise-append, distinct-at, is-member-false}
 use Rattle.walk.specs.Walk.{enter, entered, unreached, placeFrom, orderOf}

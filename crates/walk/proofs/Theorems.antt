@@ -1,4 +1,4 @@
--- What a walk's outcome has. Accepted: a permutation, its inverse in the queue, and all entries read (`accepted`). Refused by row 13: the reached ids are numbered, no others (`unreached-numbered`). Refused by any row: what the index tells (`walk-index`). Assumes nothing.
+-- What a walk's outcome has. Accepted: a permutation, its inverse in the queue, and all entries read (`walk-accepted`). Refused by row 13: the reached ids are numbered, no others (`unreached-numbered`). Refused by any row: what the index tells (`walk-index`). Assumes nothing.
 use Prim.Native.Nat.{ℕ, _<_}
 use native.Mathlib.Omega.{arith}
 use mathlib.Core.Path.{_≡_, refl, sym, ap, subst, _∙_}
@@ -24,7 +24,7 @@ use Rattle.mesh.proofs.Facts.{adjacency-facts}
 use Rattle.mesh.proofs.Neighbours.{neighbour-below, entries-of-neighbours}
 use Rattle.mesh.proofs.Refusals.{IndexTold, told-none, adjacency-index, adjacency-reasons}
 use Rattle.walk.specs.declared.Walk.the-variants.{Refused, Walked}
-use Rattle.walk.specs.Walk.{Visit, breadthFirst, unreached, orderOf, WalkOutcome, walked, walkOutcome}
+use Rattle.walk.specs.Walk.{Visit, breadthFirst, unreached, orderOf, WalkOutcome, walked, bfsVertexPermutation}
 use Rattle.walk.specs.Buffers.{DistinctIds}
 use Rattle.walk.proofs.Queue.{ids-at-most, ids-permutation}
 use Rattle.walk.proofs.Outcome.{Found, rows-refuse, short, made-of, found}
@@ -82,12 +82,12 @@ module _ (m : Mesh) (order queue : List ℕ) where
       go true q a = (eqb-true (length (visitOf m .queue)) (count m) q, cc)
       go false q a = different a
 
-  pub accepted : (read : ℕ) → walkOutcome m order queue .answered ≡ Walked read
-      → AcceptedWalk (count m) (length (m .entries)) read (take (count m) (walkOutcome m order queue .order)) (take (count m) (walkOutcome m order queue .queue))
+  pub walk-accepted : (read : ℕ) → bfsVertexPermutation m order queue .answered ≡ Walked read
+      → AcceptedWalk (count m) (length (m .entries)) read (take (count m) (bfsVertexPermutation m order queue .order)) (take (count m) (bfsVertexPermutation m order queue .queue))
   unfolding walked
-  accepted read e = go (found m order queue)
+  walk-accepted read e = go (found m order queue)
     where
-      go : Found m order queue → AcceptedWalk (count m) (length (m .entries)) read (take (count m) (walkOutcome m order queue .order)) (take (count m) (walkOutcome m order queue .queue))
+      go : Found m order queue → AcceptedWalk (count m) (length (m .entries)) read (take (count m) (bfsVertexPermutation m order queue .order)) (take (count m) (bfsVertexPermutation m order queue .queue))
       go (rows-refuse reason p o) = different (ap (λ (w : WalkOutcome). w .answered) o ∙ e)
       go (short p o) = different (ap (λ (w : WalkOutcome). w .answered) o ∙ e)
       go (made-of p o) =
@@ -112,7 +112,7 @@ module _ (m : Mesh) (order queue : List ℕ) where
       go true q a = different (sym a)
       go false q a = eqb-false (length (visitOf m .queue)) (count m) q
 
-  pub unreached-numbered : walkOutcome m order queue .answered ≡ Refused (refusal 13) → PartialWalk (count m) (visitOf m .queue) queue (walkOutcome m order queue .order) (walkOutcome m order queue .queue)
+  pub unreached-numbered : bfsVertexPermutation m order queue .answered ≡ Refused (refusal 13) → PartialWalk (count m) (visitOf m .queue) queue (bfsVertexPermutation m order queue .order) (bfsVertexPermutation m order queue .queue)
   unfolding walked
   unreached-numbered e = go (found m order queue)
     where
@@ -122,7 +122,7 @@ module _ (m : Mesh) (order queue : List ℕ) where
       other : {A : Type 0} (reason : Refusal) → Refused reason ≡ Refused (refusal 13) → reason .number ≢ 13 → A
       other reason a differs = absurd (differs cc)
 
-      go : Found m order queue → PartialWalk (count m) (visitOf m .queue) queue (walkOutcome m order queue .order) (walkOutcome m order queue .queue)
+      go : Found m order queue → PartialWalk (count m) (visitOf m .queue) queue (bfsVertexPermutation m order queue .order) (bfsVertexPermutation m order queue .queue)
       go (rows-refuse reason p o) = other reason (ap (λ (w : WalkOutcome). w .answered) o ∙ e) (rows-not-13 reason p)
       go (short p o) = other (refusal 8) (ap (λ (w : WalkOutcome). w .answered) o ∙ e) (λ z. omega arith)
       go (made-of p o) =
@@ -140,7 +140,7 @@ module _ (m : Mesh) (order queue : List ℕ) where
           })
 
   -- 18 carries the index of the first start that falls, every other refusal 0
-  pub walk-index : (reason : Refusal) → walkOutcome m order queue .answered ≡ Refused reason → IndexTold (m .starts) reason
+  pub walk-index : (reason : Refusal) → bfsVertexPermutation m order queue .answered ≡ Refused reason → IndexTold (m .starts) reason
   unfolding walked
   walk-index reason e = go (found m order queue)
     where

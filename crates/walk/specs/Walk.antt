@@ -63,8 +63,8 @@ pub record WalkOutcome : Type 0 where
   pub queue : List ℕ
 
 -- The same from its parts.
-abbrev pub walkLeft : Walk → List ℕ → List ℕ → WalkOutcome
-walkLeft answered order queue = record { answered = answered; order = order; queue = queue }
+abbrev pub walkOutcome : Walk → List ℕ → List ℕ → WalkOutcome
+walkOutcome answered order queue = record { answered = answered; order = order; queue = queue }
 
 -- Row 8: one place a vertex in each.
 unfoldable pub walkFits : ℕ → List ℕ → List ℕ → Bool
@@ -74,11 +74,11 @@ walkFits n order queue = leb n (length order) && leb n (length queue)
 unfoldable pub walked : Mesh → List ℕ → List ℕ → WalkOutcome
 walked m order queue =
     let visit = breadthFirst (count m) (neighbours m) in
-    walkLeft (answer (row (eqb (length (visit .queue)) (count m)) (refusal 13) Passed) Refused (Walked (visit .entriesRead)))
+    walkOutcome (answer (row (eqb (length (visit .queue)) (count m)) (refusal 13) Passed) Refused (Walked (visit .entriesRead)))
     (overwrite (orderOf (count m) (visit .queue)) order) (overwrite (visit .queue) queue)
 
 -- The mesh rows 2 to 4, then 8 and 13. All but the last change nothing.
-unfoldable pub walkOutcome : Mesh → List ℕ → List ℕ → WalkOutcome
-walkOutcome m order queue =
+unfoldable pub bfsVertexPermutation : Mesh → List ℕ → List ℕ → WalkOutcome
+bfsVertexPermutation m order queue =
     answer (then (adjacencyRows m) (row (walkFits (count m) order queue) (refusal 8) Passed))
-    (λ reason. walkLeft (Refused reason) order queue) (walked m order queue)
+    (λ reason. walkOutcome (Refused reason) order queue) (walked m order queue)

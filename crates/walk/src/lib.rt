@@ -5,7 +5,7 @@ ghost use mathlib.Core.List.{[], _∷_, List·Memᴰ};
 ghost use lib.ListN.{length, take};
 ghost use Rattle.sequences.specs.Starts.{part};
 ghost use Rattle.mesh.specs.Mesh.{meshOf};
-ghost use Rattle.walk.specs.Walk.{entered, unreached, orderOf, walkLeft, walkOutcome};
+ghost use Rattle.walk.specs.Walk.{entered, unreached, orderOf, walkOutcome, bfsVertexPermutation};
 ghost use Rattle.walk.specs.Buffers.{Holding, Walkable, Traversed};
 use refusal::Refusal;
 use refusal::Verdict;
@@ -38,9 +38,7 @@ fn clear_order(order: &mut [u32])
 
 // The ids of a list that have not entered yet enter behind the first `reached` places of the queue, and are numbered as they enter.
 fn enter_list(list: &[u16], order: &mut [u32], queue: &mut [u32], reached: usize) -> usize
-    requires { ⌜ (length (now order) ≤ length (now queue)) × (length (now order) ≤ unreached) ⌝ }
-    requires { ⌜ Holding (length (now order)) (take reached (now queue)) (now queue) reached (now order) (now queue) ⌝ }
-    requires { ⌜ ((v : ℕ) → List·Memᴰ v (now list) → v < length (now order)) ⌝ }
+    requires { ⌜ length (now order) ≤ length (now queue) ⌝ ∗ ⌜ length (now order) ≤ unreached ⌝ ∗ ⌜ Holding (length (now order)) (take reached (now queue)) (now queue) reached (now order) (now queue) ⌝ ∗ ⌜ ((v : ℕ) → List·Memᴰ v (now list) → v < length (now order)) ⌝ }
     ensures { λ r. ⌜ Holding (length (now (order .entry))) (entered (take reached (now (queue .entry))) (now (list .entry))) (now (queue .entry)) r (now (order .exit)) (now (queue .exit)) ⌝ }
 {
     let mut count = reached;
@@ -59,8 +57,7 @@ fn enter_list(list: &[u16], order: &mut [u32], queue: &mut [u32], reached: usize
 
 // From a queue that holds vertex 0 alone: the list of each vertex is read in the order in which the vertices entered.
 fn traverse(starts: &[u32], entries: &[u16], order: &mut [u32], queue: &mut [u32]) -> Reach
-    requires { ⌜ Walkable (now starts) (now entries) (now order) (now queue) ⌝ }
-    requires { ⌜ Holding (length (now order)) (0 ∷ []) (now queue) 1 (now order) (now queue) ⌝ }
+    requires { ⌜ Walkable (now starts) (now entries) (now order) (now queue) ⌝ ∗ ⌜ Holding (length (now order)) (0 ∷ []) (now queue) 1 (now order) (now queue) ⌝ }
     ensures { λ r. ⌜ Traversed (length (now (order .entry))) (part (now (starts .entry)) (now (entries .entry))) (now (queue .entry)) r (now (order .exit)) (now (queue .exit)) ⌝ }
 {
     let mut reached = 1;
@@ -100,7 +97,7 @@ pub fn bfs_vertex_permutation(
     order: &mut [u32],
     queue: &mut [u32],
 ) -> Walk
-    ensures { λ r. ⌜ walkLeft r (now (order .exit)) (now (queue .exit)) ≡ walkOutcome (meshOf (now (positions .entry)) (now (starts .entry)) (now (entries .entry))) (now (order .entry)) (now (queue .entry)) ⌝ }
+    ensures { λ r. ⌜ walkOutcome r (now (order .exit)) (now (queue .exit)) ≡ bfsVertexPermutation (meshOf (now (positions .entry)) (now (starts .entry)) (now (entries .entry))) (now (order .entry)) (now (queue .entry)) ⌝ }
 {
     let rows = mesh::check_adjacency(positions, starts, entries);
     match rows {

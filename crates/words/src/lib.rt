@@ -91,7 +91,7 @@ pub fn collapse_sticky(x: TwoWords) -> u64
 
 // x / 2^shift for a shift of 1 to 63, likewise.
 fn shift_words_right_sticky_short(x: TwoWords, shift: u64) -> TwoWords
-    requires { ⌜ (0 < shift) × (shift < 64) ⌝ }
+    requires { ⌜ 0 < shift ⌝ ∗ ⌜ shift < 64 ⌝ }
     ensures { λ r. ⌜ StickyEquivalent 2 (2 ^ shift) (value x) (value r) ⌝ }
 {
     let kept = x.lo >> shift;

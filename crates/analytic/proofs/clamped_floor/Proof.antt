@@ -16,8 +16,8 @@ truncating-f64-to-u64-requires : tie.Need-truncating-f64-to-u64-requires
 unfolding ofBits
 truncating-f64-to-u64-requires c κs = truncation-asks (c .before .before .args .u) (subst T (sym (c .before .if1 .taken)) tt) (c .if2 .taken)
 
-least-requires : tie.Need-least-requires
-least-requires c κs = search needs
+lesser-requires : tie.Need-lesser-requires
+lesser-requires c κs = search needs
 
 cast-result : tie.Need-cast-result
 cast-result c = search needs
@@ -30,7 +30,7 @@ unfolding ofBits
 returns c =
     let way = c .before .before in
     let start = way .before .before in
-    rw (c .least .ensures, c .before .truncating-f64-to-u64 .ensures) (floor-truncated (start .args .n) (start .args .u) (start .pre) (of-format start) (way .before .if1 .taken) (way .if2 .taken))
+    rw (c .lesser .ensures, c .before .truncating-f64-to-u64 .ensures) (floor-truncated (start .args .n) (start .args .u) (start .pre) (of-format start) (way .before .if1 .taken) (way .if2 .taken))
 
 returns-2 : tie.Need-returns-2
 unfolding ofBits
@@ -47,7 +47,7 @@ clamped-floor-spec =
     tie.close
     (tie.spec
     truncating-f64-to-u64-requires
-    least-requires
+    lesser-requires
     cast-result
     cast-result-2
     returns

@@ -23,7 +23,7 @@ within : (c : tie.After-clamped-slot) →
     start .face * c .before .slots-per-face .result + c .clamped-slot .result < 20 * c .before .slots-per-face .result
 within c =
     let k = c .before .before .before in
-    index-below (k .args .face) (c .before .slots-per-face .result) (c .clamped-slot .result) (k .pre .1)
+    index-below (k .args .face) (c .before .slots-per-face .result) (c .clamped-slot .result) (k .pre .1 .0)
     (omega (arith, c .before .slots-per-face .ensures, c .clamped-slot .ensures, clamped-slot-below (k .args .n) (k .args .q)))
 
 add-index : tie.Need-add-index

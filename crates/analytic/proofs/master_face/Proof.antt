@@ -1,5 +1,5 @@
 -- `analytic::master_face` meets its contract. Assumes nothing.
-use Rattle.analytic.proofs.FaceMapping.{candidate-below}
+use Rattle.analytic.proofs.FaceMapping.{mapped-face-below}
 use Rattle.analytic.specs.FaceChoice.{outsideFirst, faceChoiceOf}
 use native.Mathlib.Omega.{arith}
 use borrow.Author.Needs.{needs}
@@ -9,11 +9,11 @@ use Rattle.analytic.proofs.master_face.Tie as tie
 signs-of-requires : tie.Need-signs-of-requires
 signs-of-requires c κs = search needs
 
-candidate-requires : tie.Need-candidate-requires
-candidate-requires c κs = search needs
+mapped-face-requires : tie.Need-mapped-face-requires
+mapped-face-requires c κs = search needs
 
 master-face-of-requires : tie.Need-master-face-of-requires
-master-face-of-requires c κs = omega (arith, c .candidate .ensures, candidate-below (c .before .signs-of .result) 0)
+master-face-of-requires c κs = omega (arith, c .mapped-face .ensures, mapped-face-below (c .before .signs-of .result) 0)
 
 outside-requires : tie.Need-outside-requires
 outside-requires c κs = search needs
@@ -23,14 +23,14 @@ choose-face-requires c κs = search needs
 
 returns : tie.Need-returns
 unfolding faceChoiceOf outsideFirst
-returns c = rw (c .choose-face .ensures, c .before .outside .ensures, c .before .before .master-face-of .ensures, c .before .before .before .candidate .ensures, c .before .before .before .before .signs-of .ensures)
+returns c = rw (c .choose-face .ensures, c .before .outside .ensures, c .before .before .master-face-of .ensures, c .before .before .before .mapped-face .ensures, c .before .before .before .before .signs-of .ensures)
 
 pub master-face-spec : {M : Type 1} → statement M
 master-face-spec =
     tie.close
     (tie.spec
     signs-of-requires
-    candidate-requires
+    mapped-face-requires
     master-face-of-requires
     outside-requires
     choose-face-requires

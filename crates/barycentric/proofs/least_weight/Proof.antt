@@ -1,6 +1,6 @@
 -- `barycentric::least_weight` meets its contract. Assumes nothing.
 use borrow.Author.Needs.{needs}
-use Rattle.barycentric.specs.Weights.{leastWeight}
+use Rattle.barycentric.specs.LeastWeight.{leastWeight}
 use Rattle.barycentric.proofs.least_weight.Statement.{statement}
 use Rattle.barycentric.proofs.least_weight.Tie as tie
 

@@ -1,8 +1,9 @@
 -- `bracket_list::lattice_list` meets its contract: a refusal, or the listing of the frequency that was asked for. Assumes nothing.
+use native.Mathlib.Omega.{arith}
 use mathlib.Core.Path.{sym}
 use borrow.Author.Needs.{needs}
 use Rattle.bracket_list.proofs.Written.{written-as}
-use Rattle.bracket_list.proofs.Request.{listing-refused, listing-asked}
+use Rattle.bracket_list.proofs.Request.{requested-few, listing-refused, listing-asked}
 use Rattle.bracket_list.proofs.lattice_list.Statement.{statement}
 use Rattle.bracket_list.proofs.lattice_list.Tie as tie
 
@@ -21,11 +22,10 @@ returns c = let t = c .before .before .before in written-as (sym (listing-refuse
 list-lattice-requires : tie.Need-list-lattice-requires
 list-lattice-requires c κs =
     let e = c .before in
-    let a = listing-asked _ (e .before .requested .ensures) (e .if1 .left) in
-    (a .least, a .greatest)
+    (omega (arith, e .if1 .left), requested-few _ (e .before .requested .ensures))
 
 returns-2 : tie.Need-returns-2
-returns-2 c = let e = c .before .before in written-as (sym (listing-asked _ (e .before .requested .ensures) (e .if1 .left) .listed)) (c .list-lattice .ensures)
+returns-2 c = let e = c .before .before in written-as (sym (listing-asked _ (e .before .requested .ensures) (e .if1 .left))) (c .list-lattice .ensures)
 
 pub lattice-list-spec : {M : Type 1} → statement M
 lattice-list-spec =

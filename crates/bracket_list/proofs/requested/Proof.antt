@@ -1,7 +1,7 @@
 -- `bracket_list::requested` meets its contract: one text after the other is tried. Assumes nothing.
 use mathlib.Core.Path.{sym, _∙_}
 use borrow.Author.Needs.{needs}
-use Rattle.bracket_list.specs.Output.{requestedFrequency}
+use Rattle.bracket_list.specs.LatticeList.{requestedFrequency}
 use Rattle.bracket_list.proofs.requested.Statement.{statement}
 use Rattle.bracket_list.proofs.requested.Tie as tie
 

@@ -6,9 +6,9 @@ use native.Mathlib.Omega.{arith}
 use borrow.Author.Needs.{needs}
 use lib.Pow.{pow-pos}
 use lib.Ieee.{binary64}
+use Rattle.booleans.proofs.Booleans.{signs-equal}
 use Rattle.words.specs.Value.{value}
 use Rattle.words.proofs.Order.{flag-lt, flag-le}
-use Rattle.binary64.proofs.Flags.{signs-equal}
 use Rattle.fused.proofs.Outcomes.{outcome-same-sign, outcome-lt, outcome-gt, outcome-eq, signs-differ, words-zero, words-positive}
 use Rattle.fused.proofs.add_aligned.Statement.{statement}
 use Rattle.fused.proofs.add_aligned.Tie as tie
@@ -44,7 +44,7 @@ subtract-words-requires : tie.Need-subtract-words-requires
 subtract-words-requires c κs = le-of-lt (less c)
 
 round-and-pack-requires-2 : tie.Need-round-and-pack-requires-2
-round-and-pack-requires-2 c κs = (difference-positive _ _ _ (less (c .before)) (c .subtract-words .ensures), c .before .before .before .before .pre .2)
+round-and-pack-requires-2 c κs = (difference-positive _ _ _ (less (c .before)) (c .subtract-words .ensures), c .before .before .before .before .pre .1 .1)
 
 returns-2 : tie.Need-returns-2
 returns-2 c = c .round-and-pack2 .ensures ∙ outcome-lt binary64 _ _ _ _ _ _ _ (opposite (c .before .before .before .before)) (less (c .before .before)) (c .before .subtract-words .ensures)
@@ -64,7 +64,7 @@ difference-not-zero c =
     words-positive (2 ^ 64) (v .result .hi) (v .result .lo) (pow-pos 64) (c .if3 .left)
 
 round-and-pack-requires-3 : tie.Need-round-and-pack-requires-3
-round-and-pack-requires-3 c κs = (difference-not-zero c, c .before .before .before .before .before .before .before .pre .2)
+round-and-pack-requires-3 c κs = (difference-not-zero c, c .before .before .before .before .before .before .before .pre .1 .1)
 
 returns-4 : tie.Need-returns-4
 returns-4 c =

@@ -16,13 +16,13 @@ shift-words-right-sticky-requires c κs = search needs
 add-aligned-requires : tie.Need-add-aligned-requires
 add-aligned-requires c κs =
     let p = c .before .before .before .before .before .before .pre in
-    (lt-of-lt-of-le (alignable-pos _ (p .1)) (le-add-left _ _), sum-lt _ _ (shifted-lt _ _ _ (p .0) (c .shift-words-right-sticky .ensures)) (p .1 .most), p .3)
+    (lt-of-lt-of-le (alignable-pos _ (p .1 .0)) (le-add-left _ _), (sum-lt _ _ (shifted-lt _ _ _ (p .0) (c .shift-words-right-sticky .ensures)) (p .1 .0 .most), p .1 .1 .1))
 
 returns : tie.Need-returns
 returns c =
     let t = c .before .before .before .before in
     let p = t .before .before .before .pre in
-    c .add-aligned .ensures ∙ align-first binary64 _ _ _ _ _ _ _ 1202 (p .0) (p .1) (t .if1 .taken) (c .before .shift-words-right-sticky .ensures)
+    c .add-aligned .ensures ∙ align-first binary64 _ _ _ _ _ _ _ 1202 (p .0) (p .1 .0) (t .if1 .taken) (c .before .shift-words-right-sticky .ensures)
 
 shift-words-right-sticky-requires-2 : tie.Need-shift-words-right-sticky-requires-2
 shift-words-right-sticky-requires-2 c κs = search needs
@@ -30,13 +30,13 @@ shift-words-right-sticky-requires-2 c κs = search needs
 add-aligned-requires-2 : tie.Need-add-aligned-requires-2
 add-aligned-requires-2 c κs =
     let p = c .before .before .before .before .before .before .pre in
-    (lt-of-lt-of-le (alignable-pos _ (p .0)) (le-add-right _ _), sum-lt _ _ (p .0 .most) (shifted-lt _ _ _ (p .1) (c .shift-words-right-sticky2 .ensures)), p .2)
+    (lt-of-lt-of-le (alignable-pos _ (p .0)) (le-add-right _ _), (sum-lt _ _ (p .0 .most) (shifted-lt _ _ _ (p .1 .0) (c .shift-words-right-sticky2 .ensures)), p .1 .1 .0))
 
 returns-2 : tie.Need-returns-2
 returns-2 c =
     let t = c .before .before .before .before in
     let p = t .before .before .before .pre in
-    c .add-aligned2 .ensures ∙ align-second binary64 _ _ _ _ _ _ _ 1202 (p .0) (p .1) (t .if1 .left) (c .before .shift-words-right-sticky2 .ensures)
+    c .add-aligned2 .ensures ∙ align-second binary64 _ _ _ _ _ _ _ 1202 (p .0) (p .1 .0) (t .if1 .left) (c .before .shift-words-right-sticky2 .ensures)
 
 pub align-and-add-spec : {M : Type 1} → statement M
 align-and-add-spec =

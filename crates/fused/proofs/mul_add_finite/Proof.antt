@@ -34,7 +34,7 @@ returns c =
     let x = u .before .before .unpack in
     let y = u .before .unpack2 in
     zero-product-apart binary64 _ _ _ _ _ (magnitude (x .result .significand) (x .result .exponent)) (magnitude (y .result .significand) (y .result .exponent)) (2 ^ 1074) (pow-pos 1074)
-    (x .ensures .0) (y .ensures .0) (u .before .before .before .pre .2)
+    (x .ensures .0) (y .ensures .0) (u .before .before .before .pre .1 .1)
     (product-zero (x .result .significand) (y .result .significand) (x .result .exponent) (y .result .exponent) (c .if1 .taken))
 
 exact-product-requires : tie.Need-exact-product-requires

@@ -4,7 +4,7 @@ use mathlib.Core.Path.{_≡_, sym, ap, subst}
 use mathlib.Core.Bool.{Bool, true}
 use lib.Dec.{T}
 use lib.Ieee.{Float, binary64, ofBits, le}
-use Rattle.binary64.proofs.Flags.{and-both}
+use Rattle.booleans.proofs.Booleans.{and-split}
 use Rattle.fused.proofs.Sign.{product-decides}
 use Rattle.fused.proofs.product_at_most.Statement.{statement}
 use Rattle.fused.proofs.product_at_most.Tie as tie
@@ -17,7 +17,7 @@ returns : tie.Need-returns
 unfolding ofBits
 returns c =
     let s = c .before in
-    let tests = and-both _ _ (c .if1 .taken) in
+    let tests = and-split _ _ (c .if1 .taken) in
     sym (product-decides (s .args .a) (s .args .b) (s .args .c) (held (s .good .0 .1)) (held (s .good .1 .0 .1)) (held (s .good .1 .1 .0 .1)) (tests .0) (tests .1))
 
 mul-add-requires : tie.Need-mul-add-requires

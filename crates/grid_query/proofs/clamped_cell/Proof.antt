@@ -8,7 +8,7 @@ use native.Mathlib.Omega.{arith}
 use lib.Dec.{le→leb}
 use lib.Ieee.{ofBits, inFloat, lt, toUnsigned}
 use Rattle.binary64.proofs.WholeNumbers.{above-minus-one}
-use Rattle.grid.specs.CubeFace.{zeroFloat}
+use Rattle.binary64.specs.Constants.{positiveZero}
 use Rattle.binary64.specs.Convert.{whole}
 use Rattle.grid_query.specs.Cell.{clampedCell}
 use Rattle.grid_query.proofs.Clamp.{AtMost, clamp-at-most, below-word, not-positive-converts}
@@ -24,7 +24,7 @@ int-to-float-last c = le→leb (c .before .args .side - 1) (2 ^ 53) (omega arith
 
 -- what the clamp leaves
 clamped : (c : tie.Joined1) → let a = c .before .before .args in
-    c .if1 .clamped ≡ cond (lt (a .x) zeroFloat) zeroFloat (cond (lt (whole (a .side - 1)) (a .x)) (whole (a .side - 1)) (a .x))
+    c .if1 .clamped ≡ cond (lt (a .x) positiveZero) positiveZero (cond (lt (whole (a .side - 1)) (a .x)) (whole (a .side - 1)) (a .x))
 unfolding ofBits
 clamped c =
     ⊎-elim

@@ -5,13 +5,13 @@ use native.Mathlib.Omega.{arith}
 use mathlib.Core.Path.{_≡_, sym, ap, _∙_}
 use mathlib.Core.Logic.{⊎-elim}
 use mathlib.Core.List.{List, []}
-use Rattle.sequences.proofs.Range.{and-split}
+use Rattle.booleans.proofs.Booleans.{and-split}
 use Rattle.refusal.specs.declared.Verdict.the-variants.{Passed}
 use Rattle.vector.specs.Vector.{normalized}
 use Rattle.grid.specs.Grid.{Grid}
 use Rattle.grid.specs.Stored.{lentGrid}
 use Rattle.grid_query.specs.Cell.{gridRows, cellOf}
-use Rattle.grid_query.specs.Nearest.{nearestOfCell, nearestVertex}
+use Rattle.grid_query.specs.Nearest.{nearestOfCell, gridNearest}
 use Rattle.grid_query.proofs.GridRows.{GridFacts, grid-facts, grid-rows-passed, query-cell-inside, cell-rows-refused, cell-rows-passed}
 use Rattle.grid_query.proofs.find_nearest_vertex.Statement.{statement}
 use Rattle.grid_query.proofs.find_nearest_vertex.Tie as tie
@@ -68,14 +68,14 @@ nearest-of-cell-requires : tie.Need-nearest-of-cell-requires
 nearest-of-cell-requires c κs = rw (cell-is c) (query-cell-inside _ _ _ (facts (c .before .before)))
 
 returns : tie.Need-returns
-unfolding nearestVertex
+unfolding gridNearest
 returns c = λ triples.
     let k = c .before .before .before in
     let a = start-of k .args in
     rw (cell-rows-refused (lent k triples) (a .positions .now) (a .direction) _ (sym (verdict-is k triples) ∙ c .before .verdict .given .1))
 
 returns-2 : tie.Need-returns-2
-unfolding nearestVertex nearestOfCell
+unfolding gridNearest nearestOfCell
 returns-2 c = λ triples.
     let t = c .before .before .before in
     let k = t .before .before in

@@ -3,14 +3,14 @@ use borrow.Author.Needs.{needs}
 use native.Mathlib.Omega.{arith}
 use mathlib.Core.Path.{_≡_, sym, ap, _∙_}
 use mathlib.Core.Logic.{⊎-elim}
-use Rattle.sequences.proofs.Range.{and-split}
+use Rattle.booleans.proofs.Booleans.{and-split}
 use Rattle.refusal.specs.declared.Verdict.the-variants.{Passed}
 use Rattle.vector.specs.Vector.{normalized}
 use Rattle.grid.specs.Grid.{Grid}
 use Rattle.grid.specs.Stored.{lentGrid}
 use Rattle.grid_query.specs.Cell.{gridRows, cellOf, cellOfQuery}
 use Rattle.grid_query.specs.Nearest.{nearestOfCell}
-use Rattle.grid_query.specs.Locate.{locate}
+use Rattle.grid_query.specs.Locate.{gridLocate}
 use Rattle.grid_query.proofs.GridRows.{GridFacts, grid-facts, grid-rows-passed, query-cell-inside, cell-rows-refused, cell-rows-passed}
 use Rattle.grid_query.proofs.VertexFound.{FoundFacts, cell-found, cell-refused}
 use Rattle.grid_query.proofs.locate.Statement.{statement}
@@ -100,14 +100,14 @@ locate-at-requires c κs =
     omega (arith, found (c .before) .below, f .vertices-counted)
 
 returns : tie.Need-returns
-unfolding locate
+unfolding gridLocate
 returns c =
     let k = c .before .before .before in
     let a = start-of k .args in
     rw (cell-rows-refused (lent k) (a .positions .now) (a .direction) _ (sym (verdict-is k) ∙ c .before .verdict .given .1))
 
 returns-2 : tie.Need-returns-2
-unfolding locate
+unfolding gridLocate
 returns-2 c =
     let t = c .before .before .before in
     let k = checked t in
@@ -118,7 +118,7 @@ returns-2 c =
     )
 
 returns-3 : tie.Need-returns-3
-unfolding locate
+unfolding gridLocate
 returns-3 c =
     let f = found (c .before .before) in
     let t = c .before .before .before .before in

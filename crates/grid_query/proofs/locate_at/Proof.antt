@@ -12,7 +12,7 @@ use borrow.Author.Tests.{lt-leb, le-leb}
 use Rattle.sequences.specs.Starts.{blockPart}
 use Rattle.mesh.specs.Mesh.{vertexCount}
 use Rattle.mesh.specs.Rows.{notFalling, idsBelow}
-use Rattle.grid.specs.declared.Settings.{Settings}
+use Rattle.grid.specs.declared.settings.Settings.{Settings}
 use Rattle.grid.specs.Grid.{Grid}
 use Rattle.grid.specs.Stored.{lentGrid}
 use Rattle.grid_query.specs.Cell.{triplesAt}

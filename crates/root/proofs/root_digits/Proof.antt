@@ -1,6 +1,6 @@
 -- `root::root_digits` meets its contract: a candidate that passes the test, and the digits one by one. Assumes nothing.
 use native.Mathlib.Omega.{arith}
-use Rattle.root.proofs.Candidate.{halves-fit, accepted}
+use Rattle.root.proofs.Candidate.{halves-fit, candidate-accepted}
 use borrow.Author.Needs.{needs}
 use Rattle.root.proofs.root_digits.Statement.{statement}
 use Rattle.root.proofs.root_digits.Tie as tie
@@ -47,7 +47,7 @@ returns c =
     let candidate = rest .before .before in
     let start = candidate .before in
     let e = candidate .root-candidate .ensures in
-    accepted (start .args .radicand) _ _ (rest .wrapping-sub-u64 .result) (left .wrapping-sub-u642 .result) _ _ _ (start .pre) (e .0) (e .1)
+    candidate-accepted (start .args .radicand) _ _ (rest .wrapping-sub-u64 .result) (left .wrapping-sub-u642 .result) _ _ _ (start .pre) (e .0) (e .1)
     (rest .wrapping-sub-u64 .ensures) (left .wrapping-sub-u642 .ensures) (remainder .wrapping-sub-u643 .ensures) (corrected .correct-root .ensures .0) (corrected .correct-root .ensures .1) (c .if1 .taken)
 
 next-digits-requires : tie.Need-next-digits-requires

@@ -20,7 +20,7 @@ unpack-requires c κs = positive-finite (c .args .x) (c .pre)
 normalise-significand-requires : tie.Need-normalise-significand-requires
 normalise-significand-requires c κs =
     let u = c .unpack in
-    (significand-positive (c .before .args .x) (u .result .negative) (u .result .significand) (u .result .exponent) (c .before .pre) (u .ensures .0), u .ensures .1, u .ensures .2)
+    (significand-positive (c .before .args .x) (u .result .negative) (u .result .significand) (u .result .exponent) (c .before .pre) (u .ensures .0), (u .ensures .1, u .ensures .2))
 
 shr-root-of-word : tie.Need-shr-root-of-word
 shr-root-of-word c = search needs

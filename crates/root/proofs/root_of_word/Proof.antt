@@ -1,10 +1,10 @@
 -- `root::root_of_word` meets its contract: the 54 digits and the sticky bit round as the root does. Assumes nothing.
-use mathlib.Core.Path.{_≡_, _∙_}
+use mathlib.Core.Path.{_∙_}
 use mathlib.Core.Logic.{inl, inr, ⊎-elim}
-use Prim.Native.Nat.{ℕ, _+_, _*_, _^_, _≤_, _<_}
+use Prim.Native.Nat.{_^_, _<_}
 use native.Mathlib.Omega.{arith}
 use borrow.Author.Needs.{needs}
-use Rattle.root.proofs.StickyRoot.{StickyBit, sticky-lt, full-significand, significand-lt, word-rounds}
+use Rattle.root.proofs.StickyRoot.{StickyBit, sticky-root-lt, full-significand, significand-lt, word-rounds}
 use Rattle.root.proofs.root_of_word.Statement.{statement}
 use Rattle.root.proofs.root_of_word.Tie as tie
 
@@ -24,7 +24,7 @@ mul-round-and-pack-word c = omega (arith, fits (c .before .before .before))
 add-round-and-pack-word : tie.Need-add-round-and-pack-word
 add-round-and-pack-word c =
     let j = c .before .before in
-    omega (arith, fits (j .before .before), sticky-lt _ _ (bit j))
+    omega (arith, fits (j .before .before), sticky-root-lt _ _ (bit j))
 
 add-round-and-pack-word-2 : tie.Need-add-round-and-pack-word-2
 add-round-and-pack-word-2 c = search needs

@@ -10,10 +10,10 @@ use Rattle.rounding.proofs.normalise_significand.Statement.{statement}
 use Rattle.rounding.proofs.normalise_significand.Tie as tie
 
 top : (c : tie.Start) → TopShift (c .args .significand) (leadingZeros 64 (c .args .significand))
-top c = significand-top 53 (c .args .significand) (lit≤ tt) (c .pre .0) (c .pre .1)
+top c = significand-top 53 (c .args .significand) (lit≤ tt) (c .pre .0) (c .pre .1 .0)
 
 many : (c : tie.Start) → 11 ≤ leadingZeros 64 (c .args .significand)
-many c = zeros-ge 53 (c .args .significand) (lit≤ tt) (c .pre .0) (c .pre .1)
+many c = zeros-ge 53 (c .args .significand) (lit≤ tt) (c .pre .0) (c .pre .1 .0)
 
 cast-zeros : tie.Need-cast-zeros
 cast-zeros c = let k = top c .short in omega arith
@@ -29,9 +29,9 @@ sub-t7 c = let k = top c .short in omega arith
 
 returns : tie.Need-returns
 returns c = (
-  shifted-value 53 (c .args .significand) (lit≤ tt) (c .pre .0) (c .pre .1) (c .args .exponent),
+  shifted-value 53 (c .args .significand) (lit≤ tt) (c .pre .0) (c .pre .1 .0) (c .args .exponent),
   shifted-top _ _ (top c),
-  shifted-multiple 53 (c .args .significand) (lit≤ tt) (c .pre .0) (c .pre .1),
+  shifted-multiple 53 (c .args .significand) (lit≤ tt) (c .pre .0) (c .pre .1 .0),
   let k = many c in omega arith,
 )
 

@@ -26,14 +26,14 @@ abbrev id-of : (c : tie.In-loop Inv-loop μ-loop) → ℕ
 id-of c = getD (c .before .before .args .list .now) (c .before .loop .i) 0
 
 id-below : (c : tie.In-loop Inv-loop μ-loop) → id-of c < length (c .before .before .args .order .now)
-id-below c = c .before .before .pre .1 .1 (id-of c) (getD-member (c .before .before .args .list .now) (c .before .loop .i) 0 (c .loop-test .taken))
+id-below c = c .before .before .pre .1 .1 .1 (id-of c) (getD-member (c .before .before .args .list .now) (c .before .loop .i) 0 (c .loop-test .taken))
 
 -- the buffers keep their lengths
 order-length : (c : tie.At-loop Inv-loop μ-loop) → length (c .loop .order) ≡ length (c .before .args .order .now)
 order-length c = holding-order-length (c .loop .inv .1)
 
 queue-length : (c : tie.At-loop Inv-loop μ-loop) → length (c .loop .queue) ≡ length (c .before .args .queue .now)
-queue-length c = holding-queue-length (c .loop .inv .1) (c .before .pre .0 .0)
+queue-length c = holding-queue-length (c .loop .inv .1) (c .before .pre .0)
 
 -- an id without a number finds room
 record Entering (places ids count id : ℕ) (order queue : List ℕ) : Type 0 where
@@ -49,14 +49,14 @@ entering c =
     let k = c .before .before .before in
     record {
       id-within = id-below k;
-      room = holding-room (k .before .loop .inv .1) (k .before .before .pre .0 .1) (id-of k) (id-below k) (c .if1 .taken);
+      room = holding-room (k .before .loop .inv .1) (k .before .before .pre .1 .0) (id-of k) (id-below k) (c .if1 .taken);
       order-size = order-length (k .before);
       queue-size = queue-length (k .before);
     }
 
 loop-holds : tie.Need-loop-holds Inv-loop μ-loop
 unfolding entered
-loop-holds c = (omega arith, c .pre .1 .0)
+loop-holds c = (omega arith, c .pre .1 .1 .0)
 
 mul-v : tie.Need-mul-v Inv-loop μ-loop
 mul-v c = search needs
@@ -104,10 +104,10 @@ loop-again : tie.Need-loop-again Inv-loop μ-loop
 loop-again c =
     let k = c .before .before .before in
     let l = k .before in
-    let few = l .before .pre .0 .1 in
+    let few = l .before .pre .1 .0 in
     let next = entered-next (take (l .before .args .reached) (l .before .args .queue .now)) (l .before .args .list .now) (l .loop .i) (k .loop-test .taken) in (
       omega (arith, k .loop-test .taken),
-      ⊎-elim (λ w. rw (next, w .1, w .2, w .3) (holding-new (l .loop .inv .1) few (id-of k) (id-below k) (l .before .pre .0 .0) (w .0 .taken)))
+      ⊎-elim (λ w. rw (next, w .1, w .2, w .3) (holding-new (l .loop .inv .1) few (id-of k) (id-below k) (l .before .pre .0) (w .0 .taken)))
           (λ w. rw (next, w .1, w .2, w .3) (holding-old (l .loop .inv .1) few (id-of k) (id-below k) (w .0 .left))) (c .if1 .came),
     )
 

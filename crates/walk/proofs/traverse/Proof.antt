@@ -89,8 +89,11 @@ enter-list-requires c κs =
     let l = k .before in
     let w = start-of l .pre .0 in
     let below = walkable-below w (getD (l .loop .queue) (l .loop .head) 0) (turn k .vertex-below) in (
-      (omega (arith, lengths l, w .room), omega (arith, lengths l, w .few)),
-      (holding-again (l .loop .inv .1), λ v m. omega (arith, lengths l .0, below v (subst (λ (part : List ℕ). List·Memᴰ v part) (turn k .handed) m))),
+      omega (arith, lengths l, w .room),
+      (
+        omega (arith, lengths l, w .few),
+        (holding-again (l .loop .inv .1), λ v m. omega (arith, lengths l .0, below v (subst (λ (part : List ℕ). List·Memᴰ v part) (turn k .handed) m))),
+      ),
     )
 
 -- the buffers after the list at the head was read

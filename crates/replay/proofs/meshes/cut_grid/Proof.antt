@@ -6,29 +6,8 @@ use borrow.Author.Needs.{needs}
 use Rattle.replay.proofs.meshes.cut_grid.Statement.{statement}
 use Rattle.replay.proofs.meshes.cut_grid.Tie as tie
 
-take-length-requires : tie.Need-take-length-requires
-take-length-requires c κs = search needs
-
-cursor-requires : tie.Need-cursor-requires
-cursor-requires c κs = search needs
-
-take-length-requires-2 : tie.Need-take-length-requires-2
-take-length-requires-2 c κs = search needs
-
-cursor-requires-2 : tie.Need-cursor-requires-2
-cursor-requires-2 c κs = search needs
-
-take-length-requires-3 : tie.Need-take-length-requires-3
-take-length-requires-3 c κs = search needs
-
-cursor-requires-3 : tie.Need-cursor-requires-3
-cursor-requires-3 c κs = search needs
-
-take-length-requires-4 : tie.Need-take-length-requires-4
-take-length-requires-4 c κs = search needs
-
-cursor-requires-4 : tie.Need-cursor-requires-4
-cursor-requires-4 c κs = search needs
+take-grid-lengths-requires : tie.Need-take-grid-lengths-requires
+take-grid-lengths-requires c κs = search needs
 
 slice-relend-prefix-replay-grid : tie.Need-slice-relend-prefix-replay-grid
 slice-relend-prefix-replay-grid c = search needs
@@ -76,14 +55,7 @@ pub cut-grid-spec : {M : Type 1} → statement M
 cut-grid-spec =
     tie.close
     (tie.spec
-    take-length-requires
-    cursor-requires
-    take-length-requires-2
-    cursor-requires-2
-    take-length-requires-3
-    cursor-requires-3
-    take-length-requires-4
-    cursor-requires-4
+    take-grid-lengths-requires
     slice-relend-prefix-replay-grid
     slice-aggregate-replay-grid
     slice-relend-prefix-replay-grid-2

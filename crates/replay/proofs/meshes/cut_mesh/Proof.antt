@@ -9,23 +9,8 @@ use Rattle.replay.proofs.meshes.cut_mesh.Tie as tie
 new-requires : tie.Need-new-requires
 new-requires c κs = search needs
 
-take-length-requires : tie.Need-take-length-requires
-take-length-requires c κs = search needs
-
-cursor-requires : tie.Need-cursor-requires
-cursor-requires c κs = search needs
-
-take-length-requires-2 : tie.Need-take-length-requires-2
-take-length-requires-2 c κs = search needs
-
-cursor-requires-2 : tie.Need-cursor-requires-2
-cursor-requires-2 c κs = search needs
-
-take-length-requires-3 : tie.Need-take-length-requires-3
-take-length-requires-3 c κs = search needs
-
-cursor-requires-3 : tie.Need-cursor-requires-3
-cursor-requires-3 c κs = search needs
+take-mesh-lengths-requires : tie.Need-take-mesh-lengths-requires
+take-mesh-lengths-requires c κs = search needs
 
 slice-relend-prefix-replay-mesh : tie.Need-slice-relend-prefix-replay-mesh
 slice-relend-prefix-replay-mesh c = search needs
@@ -65,12 +50,7 @@ cut-mesh-spec =
     tie.close
     (tie.spec
     new-requires
-    take-length-requires
-    cursor-requires
-    take-length-requires-2
-    cursor-requires-2
-    take-length-requires-3
-    cursor-requires-3
+    take-mesh-lengths-requires
     slice-relend-prefix-replay-mesh
     slice-aggregate-replay-mesh
     slice-relend-prefix-replay-mesh-2

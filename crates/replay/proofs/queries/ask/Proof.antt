@@ -20,9 +20,6 @@ loop-holds c = search needs
 read-direction-requires : tie.Need-read-direction-requires Inv-loop μ-loop
 read-direction-requires c κs = search needs
 
-cursor-requires : tie.Need-cursor-requires Inv-loop μ-loop
-cursor-requires c κs = search needs
-
 grid-answers-requires : tie.Need-grid-answers-requires Inv-loop μ-loop
 grid-answers-requires c κs = search needs
 
@@ -50,7 +47,6 @@ ask-spec =
     take-u32-requires
     loop-holds
     read-direction-requires
-    cursor-requires
     grid-answers-requires
     sub-left
     loop-less

@@ -1,0 +1,1 @@
+// Laws of tests. No code.
