@@ -1,12 +1,7 @@
 -- Laws of a coordinate's floor, held between 0 and n: it is the truncation where that is possible. Assumes nothing.
-use mathlib.Core.Path.{◌≡◌, refl, sym, ap, ◌∙◌}
-use mathlib.Core.Bool.{true, false, true≢false, false≢true}
-use Prim.Native.Nat.{ℕ, zero, suc, ◌+◌, ◌-◌, ◌*◌, ◌/◌, ◌^◌, ◌≤◌, min}
-use native.Mathlib.Nat.{mul-one, one-mul, zero-div, le-div_iff_mul-le}
-use native.Mathlib.Omega.{arith}
-use borrow.Author.Tests.{ltb-false}
-use lib.Dec.{T}
-use lib.IntN.{ℤ, pos, negsuc, neg_ℤ}
+use Rattle.std.proofs.Common.{◌≡◌, ℕ, zero, suc, ◌+◌, ◌-◌, ◌*◌, ◌/◌, ◌^◌, ◌≤◌, min, true, false, T, ℤ, pos, negsuc, neg_ℤ, sym, refl, ap, ◌∙◌, true≢false, one-mul, le-div_iff_mul-le, mul-one, arith, ltb-false}
+use mathlib.Core.Bool.{false≢true}
+use native.Mathlib.Nat.{zero-div}
 use lib.Ieee.{Float, nan, inf, fin, binary64, up, down, lt, fits, to_unsigned}
 use lib.Ieee.Fits.{down_pos}
 use Rattle.binary64.specs.Integral.{negative, whole_magnitude, round_to_integral, floor_of}

@@ -1,13 +1,14 @@
 -- Laws of the choice of a face: the flat table holds the source's lines, and every face is one of the twenty. Assumes nothing.
-use mathlib.Core.Path.{◌≡◌, refl}
-use mathlib.Core.Bool.{Bool, true, false}
-use Prim.Native.Nat.{ℕ, zero, suc, ◌+◌, ◌≤◌, ◌<◌}
-use native.Mathlib.Nat.{le_of_suc-le-suc, not-suc-le-zero}
-use native.Mathlib.Omega.{arith}
-use lib.ListN.{get_or}
+use Rattle.std.proofs.Common.{◌≡◌, ℕ, zero, suc, ◌+◌, ◌<◌, ◌≤◌, Bool, true, false, List, [], ◌∷◌, get_or, refl, le_of_suc-le-suc, not-suc-le-zero, arith}
 use Rattle.icosahedron.proofs.Faces.{entries_below_lem}
 use Rattle.analytic.specs.declared.Signs.{Signs}
-use Rattle.analytic.specs.FaceChoice.{flag_weight, mapped_faces, face_mapping, mapped_face}
+use Rattle.analytic.specs.FaceChoice.{flag_weight, mapped_faces, mapped_face}
+
+-- the source's nested table as one list, the signs i, j and k weighing 16, 8 and 4
+abbrev pub face_mapping : List ℕ
+face_mapping =
+    1 ∷ 0 ∷ 7 ∷ 2 ∷ 8 ∷ 7 ∷ 16 ∷ 9 ∷ 5 ∷ 6 ∷ 0 ∷ 14 ∷ 15 ∷ 16 ∷ 6 ∷ 19 ∷
+    3 ∷ 2 ∷ 11 ∷ 4 ∷ 10 ∷ 9 ∷ 17 ∷ 11 ∷ 13 ∷ 14 ∷ 4 ∷ 12 ∷ 18 ∷ 19 ∷ 12 ∷ 17 ∷ []
 
 -- what holds at 0, 1, 2 and 3 holds up to 3
 up_to_three : (P : ℕ → Type 0) → P 0 → P 1 → P 2 → P 3 → (k : ℕ) → k ≤ 3 → P k

@@ -1,5 +1,4 @@
 pub mod FaceMapping
 pub mod ClampedFloor
-pub mod Orientation
 pub mod TableIndex
 pub mod Answers

@@ -1,7 +1,5 @@
 -- Every index into the id table lies below the twenty faces' slots. Assumes nothing.
-use Prim.Native.Nat.{ℕ, suc, ◌+◌, ◌-◌, ◌*◌, ◌<◌, min}
-use native.Mathlib.Nat.{mul-le-mul_right, suc-mul}
-use native.Mathlib.Omega.{arith}
+use Rattle.std.proofs.Common.{ℕ, suc, ◌+◌, ◌-◌, ◌*◌, ◌<◌, min, mul-le-mul_right, suc-mul, arith}
 use Rattle.icosahedron.specs.Slots.{slots_per_face}
 use Rattle.icosahedron.proofs.Slots.{slot_below}
 use Rattle.analytic.specs.declared.LatticeCoordinates.{LatticeCoordinates}

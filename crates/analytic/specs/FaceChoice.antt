@@ -1,5 +1,5 @@
 -- The choice of a master face. Definitions only.
-use Rattle.std.specs.Prelude.{ℕ, ◌+◌, Bool, true, false, cond, List, [], ◌∷◌, leb, get_or}
+use Rattle.std.specs.Prelude.{ℕ, ◌+◌, Bool, true, false, cond, List, [], ◌∷◌, nat_le, slice_index}
 use Rattle.binary64.specs.Constants.{positive_zero}
 use Rattle.refusal.specs.declared.Verdict.{Verdict}
 use Rattle.refusal.specs.declared.Verdict.TheVariants.{Passed}
@@ -24,14 +24,8 @@ mapped_faces false true false = 5 ∷ 6 ∷ 0 ∷ 14 ∷ []
 mapped_faces false false true = 8 ∷ 7 ∷ 16 ∷ 9 ∷ []
 mapped_faces false false false = 1 ∷ 0 ∷ 7 ∷ 2 ∷ []
 
--- The same as one list: the signs i, j and k weigh 16, 8 and 4.
-abbrev pub face_mapping : List ℕ
-face_mapping =
-    1 ∷ 0 ∷ 7 ∷ 2 ∷ 8 ∷ 7 ∷ 16 ∷ 9 ∷ 5 ∷ 6 ∷ 0 ∷ 14 ∷ 15 ∷ 16 ∷ 6 ∷ 19 ∷
-    3 ∷ 2 ∷ 11 ∷ 4 ∷ 10 ∷ 9 ∷ 17 ∷ 11 ∷ 13 ∷ 14 ∷ 4 ∷ 12 ∷ 18 ∷ 19 ∷ 12 ∷ 17 ∷ []
-
 unfoldable pub mapped_face : Signs → ℕ → ℕ
-mapped_face s k = get_or (mapped_faces s.i s.j s.k) k 0
+mapped_face s k = slice_index (mapped_faces s.i s.j s.k) k
 
 -- what a flag adds
 abbrev pub flag_weight : Bool → ℕ → ℕ
@@ -43,7 +37,7 @@ flag_sum o = flag_weight o.first 1 + flag_weight o.second 2 + flag_weight o.thir
 
 -- Row 10 refuses "flag sum above 3".
 abbrev pub flags_fit : Outside → Bool
-flags_fit o = leb (flag_sum o) 3
+flags_fit o = nat_le (flag_sum o) 3
 
 -- Row 10, and then the next rows.
 abbrev pub flag_row : Outside → Verdict → Verdict

@@ -1,5 +1,5 @@
 -- The analytic queries, whole. Definitions only.
-use Rattle.std.specs.Prelude.{ℕ, ◌+◌, ◌*◌, Bool, cond, ◌&&◌, List, leb, ltb, length, get_or}
+use Rattle.std.specs.Prelude.{ℕ, ◌+◌, ◌*◌, Bool, cond, ◌&&◌, List, length, nat_le, nat_lt, slice_index}
 use Rattle.refusal.specs.declared.Verdict.{Verdict}
 use Rattle.refusal.specs.declared.Verdict.TheVariants.{Passed}
 use Rattle.refusal.specs.Refusal.{refusal, row, answer}
@@ -20,14 +20,14 @@ use Rattle.analytic.specs.SubTriangle.{sub_triangle_on, clamped_slot}
 
 -- the id of a lattice point of a face: "the twenty faces' slots, (n + 1)(n + 2)/2 each, one face behind another"
 unfoldable pub id_at : ℕ → List ℕ → ℕ → LatticeCoordinates → ℕ
-id_at n ids face q = get_or ids (face * slots_per_face n + clamped_slot n q) 0
+id_at n ids face q = slice_index ids (face * slots_per_face n + clamped_slot n q)
 
 unfoldable pub corner_ids : ℕ → List ℕ → ℕ → SubTriangle → Triple
 corner_ids n ids face t = record { first = id_at n ids face t.first; second = id_at n ids face t.second; third = id_at n ids face t.third }
 
 -- row 4 lets pass ids below the vertex count
 unfoldable pub triple_below : ℕ → Triple → Bool
-triple_below count t = ltb t.first count && ltb t.second count && ltb t.third count
+triple_below count t = nat_lt t.first count && nat_lt t.second count && nat_lt t.third count
 
 -- the answer on a face: row 4, then the triple and its weights
 unfoldable pub locate_on : ℕ → List ℕ → ℕ → Vector3 → Location
@@ -39,7 +39,7 @@ locate_on n ids face p =
 -- "An analytic query checks the frequency, the id table's length (8), the direction, 10, then the three ids that it reads (4)." The rows before the last:
 unfoldable pub query_rows : ℕ → List ℕ → Vector3 → Verdict
 query_rows n ids p =
-    frequency_row n (row (leb (20 * slots_per_face n) (length ids)) (refusal 8) (direction_row p (flag_row (outside_first p) Passed)))
+    frequency_row n (row (nat_le (20 * slots_per_face n) (length ids)) (refusal 8) (direction_row p (flag_row (outside_first p) Passed)))
 
 unfoldable pub analytic_locate : ℕ → List ℕ → Vector3 → Location
 analytic_locate n ids p = answer (query_rows n ids p) Refused (locate_on n ids (mapped_face (signs_of p) (flag_sum (outside_first p))) p)
@@ -51,8 +51,8 @@ met_location verdict triple weights = answer verdict Refused (Located triple wei
 -- "Nearest is the last corner of greatest weight in total order."
 unfoldable pub last_greatest : Triple → Weights → ℕ
 last_greatest t w =
-    cond (leb (rank_of w.u) (rank_of w.w) && leb (rank_of w.v) (rank_of w.w)) t.third
-    (cond (leb (rank_of w.u) (rank_of w.v)) t.second t.first)
+    cond (nat_le (rank_of w.u) (rank_of w.w) && nat_le (rank_of w.v) (rank_of w.w)) t.third
+    (cond (nat_le (rank_of w.u) (rank_of w.v)) t.second t.first)
 
 unfoldable pub corner_of : Location → NearestCorner
 corner_of (Refused reason) = NearestCorner.Refused reason

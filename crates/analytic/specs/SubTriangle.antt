@@ -1,7 +1,7 @@
 -- The sub-triangle of a master face that holds a point, as `locate` of the source (000) finds it. Each `add`, `sub` and `mul` is rounded once, to nearest, ties to even (IEEE 754-2019, 4.3.1). Definitions only.
-use Rattle.std.specs.Prelude.{ℕ, ◌+◌, ◌-◌, min, cond, ℤ, pos, negsuc, Float}
+use Rattle.std.specs.Prelude.{ℕ, ◌+◌, ◌-◌, min, cond, ℤ, pos, negsuc, from_bits, Float}
 use Rattle.std.specs.Float.{binary64}
-use Rattle.std.specs.Float.Ieee.{of_bits, add, sub, mul, lt}
+use Rattle.std.specs.Float.Ieee.{add, sub, mul, lt}
 use Rattle.binary64.specs.Constants.{one}
 use Rattle.binary64.specs.Integral.{floor_of}
 use Rattle.binary64.specs.Convert.{to_i64, whole}
@@ -28,7 +28,7 @@ fraction_over i u = sub binary64 u (whole i)
 
 -- 1.5, where up and down sub-triangles are told apart
 abbrev pub orientation_limit : Float
-orientation_limit = of_bits binary64 0x3ff8000000000000
+orientation_limit = from_bits binary64 0x3ff8000000000000
 
 abbrev pub lattice_coordinates : ℕ → ℕ → LatticeCoordinates
 lattice_coordinates a b = record { a = a; b = b }

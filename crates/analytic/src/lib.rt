@@ -1,7 +1,9 @@
 // Location in closed form on the lattice: the master face of a direction, and the sub-triangle of its lattice there.
-ghost use Rattle.std.specs.Prelude.{◌≡◌, ◌+◌, ◌*◌, ◌≤◌, ◌<◌, min, length, get_or};
+#![tactic(auto)]
+
+ghost use Rattle.std.specs.Prelude.{◌≡◌, ◌+◌, ◌*◌, ◌<◌, ◌≤◌, min, length};
 ghost use Rattle.icosahedron.specs.Slots.{slots_per_face};
-ghost use Rattle.analytic.specs.FaceChoice.{flag_weight, signs_of, flag_sum, face_mapping, mapped_face, choose_face, face_choice_of};
+ghost use Rattle.analytic.specs.FaceChoice.{flag_weight, signs_of, flag_sum, mapped_face, choose_face, face_choice_of};
 ghost use Rattle.analytic.specs.SubTriangle.{clamped_floor, sub_triangle, sub_triangle_at, sub_triangle_on, clamped_slot};
 ghost use Rattle.refusal.specs.declared.Verdict.TheVariants as verdict;
 ghost use Rattle.analytic.specs.Location.{id_at, corner_ids, triple_below, met_location, analytic_locate, last_greatest, analytic_nearest};
@@ -15,27 +17,27 @@ use refusal::{Refusal, Verdict};
 use vector::{Triple, Vector3, Weights};
 
 // On which side of each symmetry plane a point lies: whether on the negative one.
-#[derive(Drop)]
+#[derive(Clone, Copy)]
 pub struct Signs {
     pub i: bool,
     pub j: bool,
     pub k: bool,
 }
 
-#[derive(Drop)]
+#[derive(Clone, Copy)]
 pub enum FaceChoice {
     Refused(Refusal),
     Face(usize),
 }
 
 // The lattice point with the weights a, b and n - a - b.
-#[derive(Drop)]
+#[derive(Clone, Copy)]
 pub struct LatticeCoordinates {
     pub a: usize,
     pub b: usize,
 }
 
-#[derive(Drop)]
+#[derive(Clone, Copy)]
 pub struct SubTriangle {
     pub first: LatticeCoordinates,
     pub second: LatticeCoordinates,
@@ -43,17 +45,23 @@ pub struct SubTriangle {
     pub weights: Weights,
 }
 
-#[derive(Drop)]
+#[derive(Clone, Copy)]
 pub enum Location {
     Refused(Refusal),
     Located { triple: Triple, weights: Weights },
 }
 
-#[derive(Drop)]
+#[derive(Clone, Copy)]
 pub enum NearestCorner {
     Refused(Refusal),
     Vertex(u16),
 }
+
+// `FACE_MAPPING` of the source, four faces for each of the eight arrangements of signs.
+const FACE_MAPPING: [u8; 32] = [
+    1, 0, 7, 2, 8, 7, 16, 9, 5, 6, 0, 14, 15, 16, 6, 19, 3, 2, 11, 4, 10, 9, 17, 11, 13, 14, 4, 12,
+    18, 19, 12, 17,
+];
 
 // The weight where the flag is set, and 0 where not.
 fn flag_weight(flag: bool, weight: usize) -> usize
@@ -69,48 +77,6 @@ fn flag_sum(outside: Outside) -> usize
     flag_weight(outside.first, 1) + flag_weight(outside.second, 2) + flag_weight(outside.third, 3)
 }
 
-// `FACE_MAPPING` of the source, four faces for each of the eight arrangements of signs. An array would be copied at each call.
-fn face_mapping(place: usize) -> usize
-    requires { place < 32 }
-    ensures { result ≡ get_or face_mapping place 0 }
-{
-    match place {
-        0 => 1,
-        1 => 0,
-        2 => 7,
-        3 => 2,
-        4 => 8,
-        5 => 7,
-        6 => 16,
-        7 => 9,
-        8 => 5,
-        9 => 6,
-        10 => 0,
-        11 => 14,
-        12 => 15,
-        13 => 16,
-        14 => 6,
-        15 => 19,
-        16 => 3,
-        17 => 2,
-        18 => 11,
-        19 => 4,
-        20 => 10,
-        21 => 9,
-        22 => 17,
-        23 => 11,
-        24 => 13,
-        25 => 14,
-        26 => 4,
-        27 => 12,
-        28 => 18,
-        29 => 19,
-        30 => 12,
-        31 => 17,
-        _ => 0,
-    }
-}
-
 // One of the four faces that the signs leave.
 fn mapped_face(signs: Signs, place: usize) -> usize
     requires { place ≤ 3 }
@@ -119,7 +85,7 @@ fn mapped_face(signs: Signs, place: usize) -> usize
     let i = flag_weight(signs.i, 16);
     let j = flag_weight(signs.j, 8);
     let k = flag_weight(signs.k, 4);
-    face_mapping(i + j + k + place)
+    FACE_MAPPING[i + j + k + place] as usize
 }
 
 // The face that three symmetry signs and three outside flags choose, or refusal 10.
@@ -171,7 +137,7 @@ fn clamped_floor(n: usize, u: f64) -> u32
 {
     if u > 0.0 {
         if u < 9007199254740992.0 {
-            lesser(binary64::whole_digits(u) as usize, n) as u32
+            lesser(std::num::truncating_f64_to_u64(u) as usize, n) as u32
         } else {
             n as u32
         }
@@ -181,30 +147,28 @@ fn clamped_floor(n: usize, u: f64) -> u32
 }
 
 // The sub-triangle whose least lattice coordinates are i and j, by the fractions over them: pointing up where they sum to about 1, down where to about 2.
-// Which of the two is met follows no pattern, so no branch depends on it. A weight is −0 + 1 * f, which is f, or 1 + -1 * f, which is rounded as 1 - f is (IEEE 754-2019, 4.3.1).
 fn sub_triangle(i: usize, j: usize, fu: f64, fv: f64, fw: f64) -> SubTriangle
     requires fact_1 { i ≤ 80 }
     requires fact_2 { j ≤ 80 }
     ensures { result ≡ sub_triangle i j fu fv fw }
 {
-    let up = fu + fv + fw < 1.5;
-    let down: usize = if up { 0 } else { 1 };
-    let start = if up { -0.0 } else { 1.0 };
-    let sign = if up { 1.0 } else { -1.0 };
-    SubTriangle {
-        first: LatticeCoordinates {
-            a: i + (1 - down),
-            b: j + down,
-        },
-        second: LatticeCoordinates {
-            a: i + down,
-            b: j + (1 - down),
-        },
-        third: LatticeCoordinates {
-            a: i + down,
-            b: j + down,
-        },
-        weights: Weights::new(start + sign * fu, start + sign * fv, start + sign * fw),
+    let corner = LatticeCoordinates { a: i, b: j };
+    let beside_a = LatticeCoordinates { a: i + 1, b: j };
+    let beside_b = LatticeCoordinates { a: i, b: j + 1 };
+    if fu + fv + fw < 1.5 {
+        SubTriangle {
+            first: beside_a,
+            second: beside_b,
+            third: corner,
+            weights: Weights::new(fu, fv, fw),
+        }
+    } else {
+        SubTriangle {
+            first: beside_b,
+            second: beside_a,
+            third: LatticeCoordinates { a: i + 1, b: j + 1 },
+            weights: Weights::new(1.0 - fu, 1.0 - fv, 1.0 - fw),
+        }
     }
 }
 
@@ -280,7 +244,7 @@ fn triple_below(count: usize, t: Triple) -> bool
 
 // What the rows found, and beside it the triangle, which has a meaning where they let pass. In an answer by cases number and index of a refusal
 // share the place of the weights, which are then stored in pieces, so that whoever reads them has to wait.
-#[derive(Drop)]
+#[derive(Clone, Copy)]
 struct Met {
     verdict: Verdict,
     triple: Triple,

@@ -1,4 +1,6 @@
 // Barycentric weights of a point in a triangle, and the least of them.
+#![tactic(auto)]
+
 ghost use Rattle.std.specs.Prelude.{◌≡◌};
 ghost use Rattle.barycentric.specs.LeastWeight.{least_weight};
 ghost use Rattle.barycentric.specs.Ericson.{projected_barycentric};

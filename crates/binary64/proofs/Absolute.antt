@@ -14,6 +14,8 @@ use Rattle.binary64.proofs.SignedOrder.{neg_le}
 pub abs_finite : (x : Float) → T (finite x) → T (finite (abs x))
 unfolding abs
 abs_finite (fin s m e) h = tt
+abs_finite nan h = elim h [ ]
+abs_finite (inf _) h = elim h [ ]
 
 abs_either : (x : Float) → (abs x ≡ x) ⊎ (abs x ≡ neg x)
 unfolding abs neg
@@ -43,6 +45,10 @@ unfolding abs le
 abs_bounded_finite nan (fin t n d) B h = absurd h
 abs_bounded_finite (inf s) (fin t n d) B h = absurd h
 abs_bounded_finite (fin s m e) b B h = tt
+abs_bounded_finite nan nan B h = elim B [ ]
+abs_bounded_finite nan (inf _) B h = elim B [ ]
+abs_bounded_finite (inf s) nan B h = elim B [ ]
+abs_bounded_finite (inf s) (inf _) B h = elim B [ ]
 
 pub abs_within : (x b : Float) → T (le (neg b) x) → T (le x b) → T (le (abs x) b)
 abs_within x b least most = go (abs_either x)
@@ -61,6 +67,9 @@ abs_from_below x b h =
 pub abs_of_positive : (x : Float) → T (positive x) → abs x ≡ x
 unfolding abs
 abs_of_positive (fin false m e) h = refl
+abs_of_positive nan h = elim h [ ]
+abs_of_positive (inf _) h = elim h [ ]
+abs_of_positive (fin true m e) h = elim h [ ]
 
 -- ---- operations
 own_abs : {x : Float} → Signed false x → abs x ≡ x
@@ -77,3 +86,8 @@ unfolding abs div
 abs_div f (fin s m e) (fin false k g) X Y =
     let some : 0 < k = ltb→lt 0 k Y in
     rw (ne_eqb k 0 (λ z. omega arith)) (abs_round f _ _ _)
+abs_div f nan y X Y = elim X [ ]
+abs_div f (inf _) y X Y = elim X [ ]
+abs_div f (fin s m e) nan X Y = elim Y [ ]
+abs_div f (fin s m e) (inf _) X Y = elim Y [ ]
+abs_div f (fin s m e) (fin true k g) X Y = elim Y [ ]

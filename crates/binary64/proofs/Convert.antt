@@ -12,9 +12,13 @@ pub to_i64_nonnegative : (x : Float) (a c : ℕ) → 0 < c → HasValue x false 
 unfolding to_i64
 to_i64_nonnegative (fin true m e) a c p v = absurd (true≢false v.0)
 to_i64_nonnegative (fin false m e) a c p v = ap (λ (n : ℕ). pos (min n (2 ^ 63 - 1))) (div_same (m * up e) (down e) a c (down_pos e) p v.1)
+to_i64_nonnegative nan a c p v = elim v [ ]
+to_i64_nonnegative (inf _) a c p v = elim v [ ]
 
 -- A number -(a / c): toward zero, and at least the least i64.
 pub to_i64_negative : (x : Float) (a c : ℕ) → 0 < c → HasValue x true a c → to_i64 x ≡ neg_ℤ (pos (min (a / c) (2 ^ 63)))
 unfolding to_i64
 to_i64_negative (fin false m e) a c p v = absurd (false≢true v.0)
 to_i64_negative (fin true m e) a c p v = ap (λ (n : ℕ). neg_ℤ (pos (min n (2 ^ 63)))) (div_same (m * up e) (down e) a c (down_pos e) p v.1)
+to_i64_negative nan a c p v = elim v [ ]
+to_i64_negative (inf _) a c p v = elim v [ ]

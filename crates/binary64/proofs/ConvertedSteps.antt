@@ -84,6 +84,8 @@ module _ (u s : Bool) (k n d w : ℕ) (whole : k * 1 ≡ n / d * w) where
 equal_again : (y : Float) (t s : Bool) (m : ℕ) (e : ℤ) → HasValue y t (m * up e / down e) 1 → ((t ≡ s) ⊎ (m * up e / down e ≡ 0)) → eq y (fin s m e) ≡ is_whole (fin s m e)
 unfolding eq
 equal_again (fin u k g) t s m e v signs = equal_by_remainder u s (k * up g) (m * up e) (down e) (down g) v.1 (down_pos g) (⊎_elim (λ same. inl (v.0 ∙ same)) (λ none. inr none) signs)
+equal_again nan t s m e v signs = elim v [ ]
+equal_again (inf _) t s m e v signs = elim v [ ]
 
 kept_by_number : (x : Float) → T (fits binary64 x) → lt x above_range ≡ true → le least_of_range x ≡ true → eq (of_int binary64 (to_i64 x)) x ≡ is_whole x
 kept_by_number nan t above least = absurd (unfold lt in false≢true above)

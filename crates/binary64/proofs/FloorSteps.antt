@@ -25,10 +25,16 @@ truncation_asks (fin false m e) h g =
     let p = down_pos e in
     let l = ltb-true (m * up e * 1) (1 * 2 ^ 53 * down e) g in
     (lt→ltb 0 (1 * 1 * down e + m * up e * 1) (omega arith), lt→ltb (m * up e * 1) (1 * 2 ^ 64 * down e) (omega arith))
+truncation_asks nan h g = elim h [ ]
+truncation_asks (inf true) h g = elim h [ ]
+truncation_asks (fin true m e) h g = elim h [ ]
 
 -- .. and gives a whole number that the format holds.
 pub truncation_floors : (x : Float) → T (lt plus_zero x) → lt x (fin false 1 (pos 53)) ≡ true → (to_unsigned 64 x ≤ 2 ^ 53) × (of_int binary64 (pos (to_unsigned 64 x)) ≡ floor_of x)
 unfolding lt to_unsigned of_int round_to_integral
+truncation_floors nan h g = elim h [ ]
+truncation_floors (inf true) h g = elim h [ ]
+truncation_floors (fin true m e) h g = elim h [ ]
 truncation_floors (inf false) h g = absurd (false≢true g)
 truncation_floors (fin false m e) h g =
     let l : m * up e / down e < 2 ^ 53 = (div-lt_iff_lt-mul (down_pos e)).1 (simp (mul-one, one-mul) at (ltb-true (m * up e * 1) (1 * 2 ^ 53 * down e) g)) in
@@ -43,6 +49,9 @@ truncation_floors (fin false m e) h g =
 -- From 2 ^ 53 on there is no fraction.
 pub large_is_whole : (x : Float) → T (fits binary64 x) → T (lt plus_zero x) → lt x (fin false 1 (pos 53)) ≡ false → x ≡ floor_of x
 unfolding lt round_to_integral
+large_is_whole nan t h g = elim h [ ]
+large_is_whole (inf true) t h g = elim h [ ]
+large_is_whole (fin true m _) t h g = elim h [ ]
 large_is_whole (inf false) t h g = refl
 large_is_whole (fin false m (pos k)) t h g = integral_of_whole negative (fin false m (pos k)) false (m * 2 ^ k) t (refl, refl)
 large_is_whole (fin false m (negsuc k)) t h g =
@@ -96,6 +105,8 @@ below_magnitude : (w : Float) (m : ℕ) (e : ℤ) → HasValue w false (m * up e
 unfolding lt
 below_magnitude (fin true a g) m e v = absurd (true≢false v.0)
 below_magnitude (fin false a g) m e v = cut_below (a * up g) (down g) (m * up e) (down e) (down_pos g) v.1
+below_magnitude nan m e v = elim v [ ]
+below_magnitude (inf _) m e v = elim v [ ]
 
 -- one more, exactly
 add_one_rounds : (w : Float) (q : ℕ) → HasValue w false q 1 → add binary64 w plus_one ≡ round binary64 false (q + 1) 1
@@ -103,6 +114,8 @@ unfolding add
 add_one_rounds (fin true a g) q v = absurd (true≢false v.0)
 add_one_rounds (fin false a g) q v =
     round_same binary64 false (a * up g * 1 + 1 * 1 * down g) (down g * 1) (q + 1) 1 (omega (arith, down_pos g)) (zero-lt-suc 0) (omega (arith, v.1))
+add_one_rounds nan q v = elim v [ ]
+add_one_rounds (inf _) q v = elim v [ ]
 
 -- The floor is one more than the whole part in magnitude where that is below the magnitude, and the whole part itself otherwise.
 pub negative_floors : (x : Float) → T (fits binary64 x) → lt x plus_zero ≡ true → (below : Bool) → lt (floor_of (neg x)) (neg x) ≡ below

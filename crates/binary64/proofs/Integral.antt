@@ -93,6 +93,8 @@ pub integral_exact : (d : Toward) (x : Float) (s : Bool) (a c : ℕ) → T (fits
 integral_exact d (fin t m e) s a c h C v =
     subst (λ (n : ℕ). HasValue (round_to_integral d (fin t m e)) s n 1) (whole_same (away_from_zero d s) (m * up e) (down e) a c (down_pos e) C v.1)
     (subst (λ (u : Bool). HasValue (round_to_integral d (fin t m e)) u (whole_magnitude (away_from_zero d u) (m * up e) (down e)) 1) v.0 (exact_parts d t m e h))
+integral_exact d nan s a c h C v = elim v [ ]
+integral_exact d (inf _) s a c h C v = elim v [ ]
 
 -- The result is a value of the format.
 pub integral_fits : (d : Toward) (x : Float) → T (fits binary64 x) → T (fits binary64 (round_to_integral d x))

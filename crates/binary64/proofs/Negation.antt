@@ -15,6 +15,8 @@ neg_neg (fin false m e) = refl
 pub neg_value : (x : Float) (s : Bool) (a c : ℕ) → HasValue x s a c → HasValue (neg x) (not s) a c
 unfolding neg
 neg_value (fin t m e) s a c v = (ap not v.0, v.1)
+neg_value nan s a c v = elim v [ ]
+neg_value (inf _) s a c v = elim v [ ]
 
 neg_odd : (d : ℕ) (s : Bool) (q k l : ℕ) → neg (odd d s q k l) ≡ odd d (not s) q k l
 unfolding neg odd

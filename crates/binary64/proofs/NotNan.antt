@@ -39,6 +39,8 @@ round_signed f s a c = subst⁻¹ (Signed s) (round_is f s a c) (units_signed f 
 pub finite_number : (x : Float) → T (finite x) → is_nan x ≡ false
 unfolding is_nan
 finite_number (fin s m e) t = refl
+finite_number nan t = elim t [ ]
+finite_number (inf _) t = elim t [ ]
 
 -- the same as a test
 pub finite_not_nan : (x : Float) → T (finite x) → T (not (is_nan x))
@@ -46,6 +48,8 @@ finite_not_nan x t = rw (finite_number x t) tt
 
 pub value_finite : (x : Float) (s : Bool) (a c : ℕ) → HasValue x s a c → T (finite x)
 value_finite (fin t m e) s a c h = tt
+value_finite nan s a c h = elim h [ ]
+value_finite (inf _) s a c h = elim h [ ]
 
 -- What lies between two finite values is finite, and what has the sign + and is at most one.
 pub between_finite : (low x high : Float) → T (finite low) → T (finite high) → T (le low x) → T (le x high) → T (finite x)
@@ -54,11 +58,23 @@ between_finite (fin s m e) nan (fin t n d) L H h k = absurd k
 between_finite (fin s m e) (inf true) (fin t n d) L H h k = absurd h
 between_finite (fin s m e) (inf false) (fin t n d) L H h k = absurd k
 between_finite (fin s m e) (fin u o g) (fin t n d) L H h k = tt
+between_finite nan _ high L H h k = elim L [ ]
+between_finite (inf _) _ high L H h k = elim L [ ]
+between_finite (fin s m e) nan nan L H h k = elim H [ ]
+between_finite (fin s m e) nan (inf _) L H h k = elim H [ ]
+between_finite (fin s m e) (inf false) nan L H h k = elim H [ ]
+between_finite (fin s m e) (inf false) (inf _) L H h k = elim H [ ]
+between_finite (fin s m e) (inf true) nan L H h k = elim H [ ]
+between_finite (fin s m e) (inf true) (inf _) L H h k = elim H [ ]
+between_finite (fin s m e) (fin u o g) nan L H h k = elim H [ ]
+between_finite (fin s m e) (fin u o g) (inf _) L H h k = elim H [ ]
 
 pub signed_finite : {x : Float} (b : Float) → Signed false x → T (finite b) → T (le x b) → T (finite x)
 unfolding le
 signed_finite (fin t n d) infinite B h = absurd h
 signed_finite (fin t n d) (number m e) B h = tt
+signed_finite nan _ B h = elim B [ ]
+signed_finite (inf _) _ B h = elim B [ ]
 
 -- ---- the operations
 pub square_signed : (f : Format) (x : Float) → is_nan x ≡ false → Signed false (mul f x x)

@@ -99,6 +99,10 @@ signed_of_le (fin u m e) (fin w n g) s a c t b d p q h =
     subst (λ (z : Bool). SignedLe z (a * d) t (b * c)) p.0
     (subst (λ (z : Bool). SignedLe u (a * d) z (b * c)) q.0
     (signed_transfer u a c (m * up e) (down e) w b d (n * up g) (down g) (down_pos e) (down_pos g) (sym p.1) (sym q.1) (signed_of_finite u m e w n g h)))
+signed_of_le nan y s a c t b d p q h = elim p [ ]
+signed_of_le (inf _) y s a c t b d p q h = elim p [ ]
+signed_of_le (fin u m e) nan s a c t b d p q h = elim q [ ]
+signed_of_le (fin u m e) (inf _) s a c t b d p q h = elim q [ ]
 
 pub le_of_signed : (x y : Float) (s : Bool) (a c : ℕ) (t : Bool) (b d : ℕ) → 0 < c → 0 < d → HasValue x s a c → HasValue y t b d → SignedLe s (a * d) t (b * c) → T (le x y)
 unfolding le
@@ -106,6 +110,10 @@ le_of_signed (fin u m e) (fin w n g) s a c t b d C D p q h =
     test_passes u (m * up e * down g) w (n * up g * down e)
     (signed_transfer u (m * up e) (down e) a c w (n * up g) (down g) b d C D p.1 q.1
     (subst (λ (z : Bool). SignedLe z (a * d) w (b * c)) (sym p.0) (subst (λ (z : Bool). SignedLe s (a * d) z (b * c)) (sym q.0) h)))
+le_of_signed nan y s a c t b d C D p q h = elim p [ ]
+le_of_signed (inf _) y s a c t b d C D p q h = elim p [ ]
+le_of_signed (fin u m e) nan s a c t b d C D p q h = elim q [ ]
+le_of_signed (fin u m e) (inf _) s a c t b d C D p q h = elim q [ ]
 
 -- against zero
 pub signed_of_not_below : (x : Float) (s : Bool) (a c : ℕ) → HasValue x s a c → T (le (fin false 0 (pos 0)) x) → SignedLe false 0 s a
@@ -113,6 +121,9 @@ signed_of_not_below x s a c v h = signed_same false (0 * c) 0 s (a * 1) a (zero-
 
 pub positive_not_below : (x : Float) → T (positive x) → T (le (fin false 0 (pos 0)) x)
 positive_not_below (fin false m e) p = le_of_signed (fin false 0 (pos 0)) (fin false m e) false 0 1 false (m * up e) (down e) (omega arith) (down_pos e) (refl, refl) (refl, refl) (omega (arith, zero-mul (down e)))
+positive_not_below nan p = elim p [ ]
+positive_not_below (inf _) p = elim p [ ]
+positive_not_below (fin true m e) p = elim p [ ]
 
 neg_signed : (s : Bool) (a : ℕ) (t : Bool) (b : ℕ) → SignedLe s a t b → SignedLe (not t) b (not s) a
 neg_signed false a false b h = h
@@ -129,3 +140,10 @@ neg_le (inf true) (fin t n d) h = tt
 neg_le (inf false) (inf false) h = tt
 neg_le (fin s m e) (inf false) h = tt
 neg_le (fin s m e) (fin t n d) h = test_passes (not t) _ (not s) _ (neg_signed s (m * up e * down d) t (n * up d * down e) (test_says s _ t _ h))
+neg_le nan y h = elim h [ ]
+neg_le (inf false) nan h = elim h [ ]
+neg_le (inf false) (inf true) h = elim h [ ]
+neg_le (inf false) (fin t n d) h = elim h [ ]
+neg_le (inf true) nan h = elim h [ ]
+neg_le (fin s m e) nan h = elim h [ ]
+neg_le (fin s m e) (inf true) h = elim h [ ]

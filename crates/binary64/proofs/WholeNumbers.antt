@@ -29,6 +29,8 @@ pub to_unsigned_whole : (w : ℕ) (x : Float) (n : ℕ) → HasValue x false n 1
 unfolding to_unsigned
 to_unsigned_whole w (fin true m e) n v h = absurd (true≢false v.0)
 to_unsigned_whole w (fin false m e) n v h = let q : m * up e / down e ≡ n = div_same (m * up e) (down e) n 1 (down_pos e) (omega arith) v.1 ∙ div-one n in omega arith
+to_unsigned_whole w nan n v h = elim v [ ]
+to_unsigned_whole w (inf _) n v h = elim v [ ]
 
 pub whole_converted : (n : ℕ) → n ≤ 2 ^ 53 → to_unsigned 64 (whole n) ≡ n
 whole_converted n h = to_unsigned_whole 64 (whole n) n (whole_value n h) (omega arith)
@@ -46,6 +48,12 @@ to_unsigned_monotone w (fin false m e) (fin true n d) h =
 to_unsigned_monotone w (fin false m e) (fin false n d) h =
     let q : m * up e / down e ≤ n * up d / down d = div_mono (m * up e) (down e) (n * up d) (down d) (down_pos e) (down_pos d) (signed_of_finite false m e false n d h) in
     omega arith
+to_unsigned_monotone w nan y h = elim h [ ]
+to_unsigned_monotone w (inf false) nan h = elim h [ ]
+to_unsigned_monotone w (inf false) (inf true) h = elim h [ ]
+to_unsigned_monotone w (inf false) (fin _ n d) h = elim h [ ]
+to_unsigned_monotone w (fin false m e) nan h = elim h [ ]
+to_unsigned_monotone w (fin false m e) (inf true) h = elim h [ ]
 
 -- its lower end: what is not below zero is above −1
 pub above_minus_one : (x : Float) → le (fin false 0 (pos 0)) x ≡ true → T (lt (fin true 1 (pos 0)) x)

@@ -1,5 +1,7 @@
 // Helpers on binary64 that need no wide arithmetic: total order, minimum, floor, ceiling, conversion to a whole number.
 // IEEE 754-2019 decides; the definitions stand in specs/.
+#![tactic(auto)]
+
 ghost use Rattle.std.specs.Prelude.{◌≡◌, true, false, T, pos};
 ghost use Rattle.std.specs.Float.{fin};
 ghost use Rattle.std.specs.Float.Ieee.{lt, le, to_unsigned};
@@ -10,7 +12,7 @@ ghost use Rattle.binary64.specs.Integral.{floor_of, ceil_of};
 ghost use Rattle.binary64.specs.Convert.{to_i64, least_of_range, above_range, conversion_of, converted_of};
 
 // How one datum stands to another in the total order.
-#[derive(Drop)]
+#[derive(Clone, Copy)]
 pub enum Ordering {
     Less,
     Equal,
@@ -124,7 +126,7 @@ pub fn whole_digits(x: f64) -> u64
 }
 
 // What became of a value that was converted to a whole number.
-#[derive(Drop)]
+#[derive(Clone, Copy)]
 pub enum Conversion {
     // It is a whole number of the range, and is the result.
     Kept,
@@ -137,7 +139,7 @@ pub enum Conversion {
 }
 
 // A converted value, with what became of it.
-#[derive(Drop)]
+#[derive(Clone, Copy)]
 pub struct Converted {
     pub whole: i64,
     pub how: Conversion,

@@ -1,1 +1,3 @@
 // Laws of tests. No code.
+#![tactic(auto)]
+

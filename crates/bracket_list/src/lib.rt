@@ -1,4 +1,6 @@
 // Lattices as bracket lists, in bytes. Each function writes at a place of a lent slice and answers the place behind what it wrote.
+#![tactic(auto)]
+
 ghost use Rattle.std.specs.Prelude.{◌+◌, ◌≤◌, ◌<◌, ◌≡◌, [], ◌∷◌, length};
 ghost use Rattle.sequences.specs.Starts.{part, CompressedRows};
 ghost use Rattle.lattice.specs.Lattice.{lattice_mesh};

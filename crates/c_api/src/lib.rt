@@ -1,4 +1,6 @@
 // The engine for C and Rust: include/koshirga.h declares these functions.
+#![tactic(auto)]
+
 
 pub mod arithmetic;
 pub mod grids;
@@ -9,21 +11,21 @@ pub mod vectors;
 // Every answer by cases has the refusal's number first, 0 where the call was accepted. The other fields of a refused answer are 0,
 // but for the index that row 18 carries, in the answers of the calls that have that row.
 #[repr(C)]
-#[derive(Drop)]
+#[derive(Clone, Copy)]
 pub struct VerdictAnswer {
     pub refusal: u32,
     pub index: usize,
 }
 
 #[repr(C)]
-#[derive(Drop)]
+#[derive(Clone, Copy)]
 pub struct FaceAnswer {
     pub refusal: u32,
     pub face: u32,
 }
 
 #[repr(C)]
-#[derive(Drop)]
+#[derive(Clone, Copy)]
 pub struct AnalyticAnswer {
     pub refusal: u32,
     pub first: u32,
@@ -35,14 +37,14 @@ pub struct AnalyticAnswer {
 }
 
 #[repr(C)]
-#[derive(Drop)]
+#[derive(Clone, Copy)]
 pub struct VertexAnswer {
     pub refusal: u32,
     pub id: u32,
 }
 
 #[repr(C)]
-#[derive(Drop)]
+#[derive(Clone, Copy)]
 pub struct WalkAnswer {
     pub refusal: u32,
     pub entries_read: u32,
@@ -50,7 +52,7 @@ pub struct WalkAnswer {
 }
 
 #[repr(C)]
-#[derive(Drop)]
+#[derive(Clone, Copy)]
 pub struct BuildAnswer {
     pub refusal: u32,
     pub side: u32,
@@ -60,14 +62,14 @@ pub struct BuildAnswer {
 
 // A conversion is never refused: its number comes first, and what became of the value second.
 #[repr(C)]
-#[derive(Drop)]
+#[derive(Clone, Copy)]
 pub struct ConversionAnswer {
     pub whole: i64,
     pub how: u32,
 }
 
 #[repr(C)]
-#[derive(Drop)]
+#[derive(Clone, Copy)]
 pub struct NearestAnswer {
     pub refusal: u32,
     pub id: u32,
@@ -77,7 +79,7 @@ pub struct NearestAnswer {
 }
 
 #[repr(C)]
-#[derive(Drop)]
+#[derive(Clone, Copy)]
 pub struct LocatedAnswer {
     pub refusal: u32,
     pub first: u32,

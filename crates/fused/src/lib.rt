@@ -1,5 +1,7 @@
 // Fused multiply-add on doubles: the exact product plus the addend in two words, rounded once, to
 // nearest, ties to even (IEEE 754-2019, 5.4.1 and 4.3.1).
+#![tactic(auto)]
+
 ghost use Rattle.std.specs.Prelude.{◌≡◌, false, cond, ◌&&◌, ◌+◌, ◌-◌, ◌*◌, ◌^◌, ◌<◌, T};
 ghost use Rattle.std.specs.Float.{binary64};
 ghost use Rattle.std.specs.Float.Ieee.{sum, neg, le};
@@ -33,7 +35,7 @@ fn mul_add_special(a: f64, b: f64, c: f64) -> f64
 }
 
 // The value words * 2^exponent / 2^2276.
-#[derive(Drop)]
+#[derive(Clone, Copy)]
 pub struct Scaled {
     pub words: TwoWords,
     pub exponent: u64,

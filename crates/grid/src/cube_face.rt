@@ -7,7 +7,7 @@ ghost use Rattle.grid.specs.CubeFace.{face_projection, dominant_face};
 use vector::Vector3;
 
 // A point as a cube face shows it: u and w across the face, d toward it.
-#[derive(Drop)]
+#[derive(Clone, Copy)]
 pub struct Projected {
     pub u: f64,
     pub w: f64,

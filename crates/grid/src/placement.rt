@@ -14,14 +14,14 @@ use fused::mul_add_halves;
 use vector::Vector3;
 
 // Rows or columns of cells, from the first up to the end, which is not among them.
-#[derive(Drop)]
+#[derive(Clone, Copy)]
 pub struct CellRange {
     pub first: usize,
     pub end: usize,
 }
 
 // The cells of a face that a vertex is placed in: rows and columns. And how many of the conversions that gave them were held at an end of the signed range.
-#[derive(Drop)]
+#[derive(Clone, Copy)]
 pub struct Placement {
     pub first_row: usize,
     pub end_row: usize,

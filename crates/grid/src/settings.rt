@@ -6,7 +6,7 @@ ghost use Rattle.grid.specs.Settings.{settings_rows};
 use refusal::{Refusal, Verdict};
 
 // What a grid is built with: the factor of its side, and how many rows and columns the cells of a vertex reach to each side of its own.
-#[derive(Drop)]
+#[derive(Clone, Copy)]
 pub struct Settings {
     pub factor: f64,
     pub margin: u32,

@@ -2,12 +2,10 @@
 use Rattle.std.specs.Prelude.{ℕ, List, [], ◌∷◌, length, Float}
 use Rattle.sequences.specs.Least.{least}
 use Rattle.binary64.specs.TotalOrder.{rank_of}
-use Rattle.refusal.specs.declared.Verdict.TheVariants.{Passed}
-use Rattle.refusal.specs.Refusal.{refusal, row, answer}
+use Rattle.refusal.specs.Refusal.{answer}
 use Rattle.vector.specs.declared.Vector3.{Vector3}
 use Rattle.vector.specs.Vector.{vector_difference, squared_length, normalized}
-use Rattle.mesh.specs.Mesh.{vertex_count, position_of}
-use Rattle.mesh.specs.Rows.{ids_below}
+use Rattle.mesh.specs.Mesh.{position_of}
 use Rattle.grid.specs.Grid.{Grid}
 use Rattle.grid_query.specs.declared.Nearest.{Nearest}
 use Rattle.grid_query.specs.declared.Nearest.TheVariants.{Refused, Found}
@@ -28,11 +26,7 @@ nearest_in positions direction ids =
     let id = nearest_of positions direction ids in
     Found id (squared_distance positions direction id) (length ids)
 
--- The same behind row 4, which speaks of every id.
-unfoldable pub nearest_of_ids : List Float → Vector3 → List ℕ → Nearest
-nearest_of_ids positions direction ids = answer (row (ids_below (vertex_count positions) ids) (refusal 4) Passed) Refused (nearest_in positions direction ids)
-
--- And behind all rows that speak of the cell.
+-- The same behind the rows that speak of the cell.
 unfoldable pub nearest_of_cell : Grid → List Float → Vector3 → ℕ → Nearest
 nearest_of_cell grid positions direction cell = answer (candidate_rows grid positions cell) Refused (nearest_in positions direction (candidates grid cell))
 

@@ -1,4 +1,6 @@
 // Queries of a cube grid: the nearest vertex of a direction, and the triangle around it.
+#![tactic(auto)]
+
 ghost use Rattle.std.specs.Prelude.{◌≡◌, ℕ, ◌+◌, ◌^◌, ◌<◌, ◌≤◌, true, List, length, if◌then◌else◌};
 ghost use Rattle.std.specs.Float.Ieee.{lt};
 ghost use Rattle.refusal.specs.Refusal.{refusal};
@@ -11,7 +13,7 @@ ghost use Rattle.grid.specs.declared.settings.Settings.{Settings};
 ghost use Rattle.grid.specs.Stored.{lent_grid};
 ghost use Rattle.grid_query.specs.declared.Located.TheVariants.{Refused};
 ghost use Rattle.grid_query.specs.Cell.{clamped_cell, cell_of, in_triples, grid_rows};
-ghost use Rattle.grid_query.specs.Nearest.{squared_distance, nearest_in, nearest_of_ids, nearest_of_cell, grid_nearest};
+ghost use Rattle.grid_query.specs.Nearest.{squared_distance, nearest_in, nearest_of_cell, grid_nearest};
 ghost use Rattle.grid_query.specs.Locate.{located, least_kept, kept_of, located_at, grid_locate};
 
 use barycentric::{least_weight, projected_barycentric};
@@ -25,7 +27,7 @@ use refusal::{Refusal, Verdict};
 use vector::{Triple, Vector3, Weights};
 
 // What a nearest query answers: the first row that refuses; or the vertex, its squared distance and how many candidates were compared.
-#[derive(Drop)]
+#[derive(Clone, Copy)]
 pub enum Nearest {
     Refused(Refusal),
     Found {
@@ -36,7 +38,7 @@ pub enum Nearest {
 }
 
 // What a location answers: the first row that refuses; or a triple with three weights and the least of them.
-#[derive(Drop)]
+#[derive(Clone, Copy)]
 pub enum Located {
     Refused(Refusal),
     At {
@@ -113,7 +115,7 @@ fn squared_distance(positions: &[f64], direction: Vector3, vertex: usize) -> f64
 }
 
 // The first candidate with the least squared distance in total order.
-fn nearest_by_rank(positions: &[f64], candidates: &[u16], direction: Vector3) -> Nearest
+fn nearest_in_cell(positions: &[f64], candidates: &[u16], direction: Vector3) -> Nearest
     requires fact_1 { 0 < length candidates.now }
     requires fact_2 { length candidates.now < 2 ^ 32 }
     requires fact_3 { ids_below (vertex_count positions.now) candidates.now ≡ true }
@@ -143,40 +145,6 @@ fn nearest_by_rank(positions: &[f64], candidates: &[u16], direction: Vector3) ->
     }
 }
 
-// The same behind row 4, in one pass, which tests an id before its position is read. A squared distance is no −0, so that below +∞ the order of the numbers is the total
-// order: one comparison decides, which a processor needn't foresee. Where no distance is below +∞, ranks decide.
-fn nearest_in_cell(positions: &[f64], candidates: &[u16], direction: Vector3) -> Nearest
-    requires fact_1 { 0 < length candidates.now }
-    requires fact_2 { length candidates.now < 2 ^ 32 }
-    ensures { result ≡ nearest_of_ids positions.now direction candidates.now }
-{
-    let count = vertex_count(positions);
-    let mut id = candidates[0];
-    let mut distance = 1.0 / 0.0;
-    let mut i: usize = 0;
-    while i < candidates.len() {
-        let next = candidates[i];
-        if next as usize >= count {
-            return Nearest::Refused(Refusal::new(4));
-        }
-        let next_distance = squared_distance(positions, direction, next as usize);
-        if next_distance < distance {
-            id = next;
-            distance = next_distance;
-        }
-        i += 1;
-    }
-    if distance < 1.0 / 0.0 {
-        let compared = i as u32;
-        return Nearest::Found {
-            id,
-            distance,
-            candidates: compared,
-        };
-    }
-    nearest_by_rank(positions, candidates, direction)
-}
-
 // The nearest candidate of a cell, behind rows 18, 3, 11 and 4. Of the grid only the cell starts and ids matter.
 fn nearest_of_cell(
     positions: &[f64],
@@ -201,7 +169,11 @@ fn nearest_of_cell(
         return Nearest::Refused(Refusal::new(11));
     }
     let part = &cell_ids[start..end];
-    nearest_in_cell(positions, part, direction)
+    if ids_below(vertex_count(positions), part) {
+        nearest_in_cell(positions, part, direction)
+    } else {
+        Nearest::Refused(Refusal::new(4))
+    }
 }
 
 // The least that a triangle has to exceed.

@@ -1,5 +1,7 @@
 // The icosahedron that the lattice subdivides: its twelve points, its twenty master faces, and the slots of a face's lattice points.
 // Assumes of its arguments what its callers know (an index of a point below 12, of a face below 20): no function here is an entry point.
+#![tactic(auto)]
+
 ghost use Rattle.std.specs.Prelude.{◌≡◌, ◌+◌, ◌<◌, ◌≤◌};
 ghost use Rattle.icosahedron.specs.Icosahedron.{icosahedron_point, face_corner, corner_point};
 ghost use Rattle.icosahedron.specs.Slots.{frequency_fits, slot_of, slots_per_face, lattice_vertex_count};

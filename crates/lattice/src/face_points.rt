@@ -7,7 +7,7 @@ ghost use Rattle.lattice.specs.Inside.{is_inside};
 use icosahedron::{slots_per_face, tri_index};
 
 // A point of a master face: a on the first corner, b on the second, the rest on the third.
-#[derive(Drop)]
+#[derive(Clone, Copy)]
 pub struct FacePoint {
     pub face: usize,
     pub a: usize,

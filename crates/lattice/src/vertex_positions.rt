@@ -14,7 +14,7 @@ use std::num::nearest_u64_to_f64;
 use vector::Vector3;
 
 // The corners of a master face.
-#[derive(Drop)]
+#[derive(Clone, Copy)]
 struct FaceCorners {
     first: Vector3,
     second: Vector3,

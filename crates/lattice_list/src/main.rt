@@ -1,4 +1,6 @@
 // `lattice-list`: reads a request from standard input, and prints the lattice that it asks for, or that it is refused.
+#![tactic(auto)]
+
 use libc::{STDIN_FILENO, STDOUT_FILENO};
 
 fn main() {

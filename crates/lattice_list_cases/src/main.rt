@@ -1,4 +1,6 @@
 // What `lattice-list` prints, held to the listings of the Rust source for each frequency, in data/, and to a refusal for malformed requests.
+#![tactic(auto)]
+
 use libc::STDOUT_FILENO;
 
 // Whether an input prints a text.

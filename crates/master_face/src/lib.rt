@@ -1,4 +1,6 @@
 // The master faces of the icosahedron: plane geometry for projection and classification, and the Gram numbers of the edges.
+#![tactic(auto)]
+
 ghost use Rattle.std.specs.Prelude.{◌≡◌};
 ghost use Rattle.master_face.specs.MasterFace.{gram_of, edge_planes_of, master_face, radial_projection, face_weights, outside_of};
 
@@ -6,7 +8,7 @@ pub mod faces;
 
 use vector::{Vector3, Weights};
 
-#[derive(Drop)]
+#[derive(Clone, Copy)]
 pub struct Corners {
     pub p1: Vector3,
     pub p2: Vector3,
@@ -14,7 +16,7 @@ pub struct Corners {
 }
 
 // The normals of the side planes through the origin and two corners.
-#[derive(Drop)]
+#[derive(Clone, Copy)]
 pub struct EdgePlanes {
     pub first: Vector3,
     pub second: Vector3,
@@ -22,7 +24,7 @@ pub struct EdgePlanes {
 }
 
 // The edges' dots with each other, and 1 / (d00 d11 - d01 d01).
-#[derive(Drop)]
+#[derive(Clone, Copy)]
 pub struct Gram {
     pub d00: f64,
     pub d01: f64,
@@ -30,7 +32,7 @@ pub struct Gram {
     pub inv_denom: f64,
 }
 
-#[derive(Drop)]
+#[derive(Clone, Copy)]
 pub struct MasterFace {
     pub corners: Corners,
     pub normal: Vector3,
@@ -42,7 +44,7 @@ pub struct MasterFace {
 }
 
 // Beyond which side planes of a face a point lies.
-#[derive(Drop)]
+#[derive(Clone, Copy)]
 pub struct Outside {
     pub first: bool,
     pub second: bool,

@@ -1,5 +1,7 @@
 // Rows 2 to 6 of document 01's table, with rows 17 and 18 of W-209: what an operation asks of the mesh that it is lent, and of a permutation
 // of its ids. The call that reads whether the neighbour lists ascend (W-208).
+#![tactic(auto)]
+
 ghost use Rattle.std.specs.Prelude.{◌≡◌, true, suc, ◌*◌, ◌+◌, ◌≤◌, ◌<◌, length};
 ghost use Rattle.sequences.specs.Permutation.{is_permutation};
 ghost use Rattle.refusal.specs.declared.Verdict.TheVariants.{Passed};

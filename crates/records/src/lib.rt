@@ -1,6 +1,8 @@
 // Records of calls, as text: one to a line, words with one space between them. A word is a number in hexadecimal digits, or `nan`.
 // A record is read from the left with a cursor. The first word that is malformed, or is not what is expected, makes the cursor bad, and a bad
 // cursor stays where it is.
+#![tactic(auto)]
+
 ghost use Rattle.std.specs.Prelude.{◌≤◌, ◌≡◌, true, map, length};
 ghost use Rattle.std.specs.Float.{binary64};
 ghost use Rattle.std.specs.Float.Ieee.{of_bits};
@@ -8,14 +10,14 @@ ghost use Rattle.records.specs.Words.{cursor_at, good_word, bad_word, digit_valu
 ghost use Rattle.records.specs.Lists.{pattern, expected_each, expected_list, ListRead, all_numbers, all_doubles};
 ghost use Rattle.records.specs.Hash.{hashed_bytes, bytes_of, hash_of};
 
-#[derive(Drop)]
+#[derive(Clone, Copy)]
 pub struct Cursor {
     pub at: usize,
     pub good: bool,
 }
 
 // A number that was read, and the cursor behind it.
-#[derive(Drop)]
+#[derive(Clone, Copy)]
 pub struct Word {
     pub value: u64,
     pub at: usize,
@@ -23,7 +25,7 @@ pub struct Word {
 }
 
 // The same for a number of 32 bits.
-#[derive(Drop)]
+#[derive(Clone, Copy)]
 pub struct Word32 {
     pub value: u32,
     pub at: usize,
@@ -31,7 +33,7 @@ pub struct Word32 {
 }
 
 // A number of places that was read, and the cursor behind it.
-#[derive(Drop)]
+#[derive(Clone, Copy)]
 pub struct Length {
     pub places: usize,
     pub at: usize,

@@ -1,10 +1,12 @@
 // Why a call is refused, and what a chain of checks found.
+#![tactic(auto)]
+
 ghost use Rattle.std.specs.Prelude.{◌≡◌};
 ghost use Rattle.refusal.specs.Refusal.{refusal, refusal_at};
 
 // A row of document 01's table "Refused, by the place of the check". Every refusal of the engine is made here.
 // Row 18 names the start that falls by its index; for the other rows the index is 0.
-#[derive(Drop)]
+#[derive(Clone, Copy)]
 pub struct Refusal {
     pub number: u32,
     pub index: usize,
@@ -25,7 +27,7 @@ impl Refusal {
 }
 
 // What the rows of a chain found: the first that refuses, or none.
-#[derive(Drop)]
+#[derive(Clone, Copy)]
 pub enum Verdict {
     Passed,
     Refused(Refusal),

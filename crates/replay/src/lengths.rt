@@ -4,7 +4,7 @@ ghost use Rattle.std.specs.Prelude.{◌≤◌, length};
 use records::Cursor;
 
 // Those of a mesh's three slices, and the cursor behind them.
-#[derive(Drop)]
+#[derive(Clone, Copy)]
 pub struct MeshLengths {
     pub positions: usize,
     pub starts: usize,
@@ -36,7 +36,7 @@ pub fn take_mesh_lengths(
 }
 
 // Those of a grid's four slices, and the cursor behind them.
-#[derive(Drop)]
+#[derive(Clone, Copy)]
 pub struct GridLengths {
     pub cell_starts: usize,
     pub cell_ids: usize,

@@ -1,5 +1,7 @@
 // Replays the recorded answers of the Rust source, in data/, on the engine: one line a file, with its records and the differences counted. Then
 // records that are wrong on purpose, with those counted that were noticed.
+#![tactic(auto)]
+
 mod arithmetic;
 mod lattices;
 mod lengths;
@@ -15,7 +17,7 @@ use records::Cursor;
 use report::Tally;
 
 // What the records of a file hold: README.md says which words.
-#[derive(Drop)]
+#[derive(Clone, Copy)]
 enum Kind {
     MulAdd,
     Sqrt,

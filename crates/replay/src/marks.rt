@@ -2,7 +2,7 @@
 use records::Cursor;
 
 // A mark that was read, and the cursor behind it.
-#[derive(Drop)]
+#[derive(Clone, Copy)]
 pub struct Mark {
     pub lists_ascend: bool,
     pub behind: Cursor,

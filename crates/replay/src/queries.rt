@@ -118,7 +118,7 @@ pub fn grid_answers(
 }
 
 // The three components of a direction, and the cursor behind them.
-#[derive(Drop)]
+#[derive(Clone, Copy)]
 pub struct Read {
     pub direction: Vector3,
     pub behind: Cursor,

@@ -5,7 +5,7 @@ use libc::STDOUT_FILENO;
 use records::Cursor;
 
 // The first record that differs and the first that does not are remembered by their numbers, which are their lines'; 0 where there is none.
-#[derive(Drop)]
+#[derive(Clone, Copy)]
 pub struct Tally {
     pub records: u64,
     pub differences: u64,

@@ -3,7 +3,7 @@ use Rattle.std.proofs.Common.{◌≡◌, ℕ, ◌+◌, ◌-◌, ◌*◌, ◌/◌
 use native.Mathlib.Nat.{mul-mul-mul_comm}
 
 -- ---- one digit: q the significand, m the remainder, t the radicand's digits still to come
-pub odd_square : (q : ℕ) → (q * 2 + 1) * (q * 2 + 1) ≡ q * q * 4 + q * 4 + 1
+odd_square : (q : ℕ) → (q * 2 + 1) * (q * 2 + 1) ≡ q * q * 4 + q * 4 + 1
 odd_square q =
     let a : (q * 2 + 1) * (q * 2 + 1) ≡ q * 2 * (q * 2) + q * 2 * 1 + (1 * (q * 2) + 1 * 1) = add-mul (q * 2) 1 (q * 2 + 1) ∙ (λ i. mul-add (q * 2) (q * 2) 1 i + mul-add 1 (q * 2) 1 i) in
     let b : q * 2 * (q * 2) ≡ q * q * 4 = mul-mul-mul_comm q 2 q 2 in

@@ -4,6 +4,5 @@ pub mod Digits
 pub mod Candidate
 pub mod StickyRoot
 pub mod HalfExponent
-pub mod Greatest
 pub mod Operands
 pub mod Monotone

@@ -1,21 +1,50 @@
--- Which case of `square_root` an operand meets, by its comparisons with zero and with the greatest finite value. Assumes nothing.
-use Rattle.std.proofs.Common.{◌≡◌, ℕ, zero, suc, ◌+◌, ◌*◌, ◌/◌, ◌^◌, ◌<◌, ◌≤◌, Bool, true, false, not, ◌&&◌, T, ltb, ℤ, pos, sym, refl, ap, ◌∙◌, subst, true≢false, lt_irrefl, zero-lt-suc, mul_assoc, mul-pos, zero-mul, mul-one, mul_right_comm, mul-div_cancel, arith, ltb→lt, lt→ltb, nltb→le, pow_pos}
-use mathlib.Core.Bool.{false≢true}
-use lib.Ieee.{Float, nan, inf, fin, binary64, up, down, lt, le, div, of_bits, fits}
+-- Which case of `square_root` an operand meets, by its comparisons with itself and with zero. Assumes nothing.
+use Rattle.std.proofs.Common.{◌≡◌, ℕ, zero, suc, ◌+◌, ◌*◌, ◌/◌, ◌^◌, ◌<◌, ◌≤◌, Bool, true, false, not, ◌&&◌, ◌||◌, T, eqb, ℤ, pos, sym, refl, ap, ◌∙◌, subst, inl, inr, true≢false, lt_irrefl, zero-lt-suc, mul_assoc, eq-zero-or-pos, mul-pos, zero-mul, mul-one, mul_right_comm, mul-div_cancel, arith, eqb→eq, ltb→lt, lt→ltb, nltb→le, pow_pos}
+use mathlib.Core.Bool.{beq, false≢true}
+use lib.Dec.{eqb_refl}
+use lib.Ieee.{Float, nan, inf, fin, binary64, up, down, eq, ne, lt, div, of_bits}
 use lib.Ieee.Fits.{up_pos, down_pos, and_l}
+use lib.Ieee.Compare.{differs_from_itself, nan_differs}
 use lib.Ieee.Exact.{HasValue}
+use lib.Ieee.Scale.{finite}
 use lib.Ieee.Positive.{positive, first_pos, value_pos}
 use Rattle.root.specs.Root.{scaled_root, square_root}
-use Rattle.root.proofs.Greatest.{greatest_finite, greatest_finite_bits, not_above_greatest}
 
 zero_bits : fin false 0 (pos 0) ≡ of_bits binary64 0
 unfolding of_bits
 zero_bits = refl
 
--- ---- below zero
+-- ---- a size that is zero
+size_zero : (m : ℕ) (e : ℤ) → m * up e * 1 ≡ 0 * 1 * down e → m ≡ 0
+size_zero m e h = elim (eq-zero-or-pos m) [
+  | inl z ↦ z
+  | inr p ↦ absurd (lt_irrefl 0 (subst (λ (x : ℕ). 0 < x) (sym (mul-one (m * up e)) ∙ h ∙ zero-mul (down e)) (mul-pos p (up_pos e))))
+]
+
 zero_size : (e : ℤ) → zero * up e * 1 ≡ 0 * 1 * down e
 zero_size e = mul-one (zero * up e) ∙ zero-mul (up e) ∙ sym (zero-mul (down e))
 
+-- ---- a NaN
+pub nan_root : (x : Float) → ne x x ≡ true → x ≡ square_root binary64 x
+unfolding square_root
+nan_root x h = let e : x ≡ nan = differs_from_itself x (subst T (sym h) tt) in e ∙ ap (square_root binary64) (sym e)
+
+-- ---- a zero
+equals_zero : (x : Float) → eq x (fin false 0 (pos 0)) ≡ true → x ≡ square_root binary64 x
+unfolding eq square_root
+equals_zero nan h = absurd (false≢true h)
+equals_zero (inf s) h = absurd (false≢true h)
+equals_zero (fin s zero e) h = refl
+equals_zero (fin s (suc m) e) h =
+    absurd (none m (size_zero (suc m) e (eqb→eq (suc m * up e * 1) (0 * 1 * down e) (and_l (eqb (suc m * up e * 1) (0 * 1 * down e)) (beq s false || eqb (suc m * up e * 1) 0) (subst T (sym h) tt)))))
+  where
+    none : (m : ℕ) → suc m ≡ 0 → ⊥
+    none m e = omega arith
+
+pub zero_root : (x : Float) → eq x (of_bits binary64 0) ≡ true → x ≡ square_root binary64 x
+zero_root x h = equals_zero x (ap (eq x) zero_bits ∙ h)
+
+-- ---- below zero
 zero_by_zero : div binary64 (fin false 0 (pos 0)) (fin false 0 (pos 0)) ≡ nan
 unfolding div
 zero_by_zero = refl
@@ -39,56 +68,46 @@ below_zero (fin true (suc m) e) h = refl
 pub negative_root : (x : Float) → lt x (of_bits binary64 0) ≡ true → div binary64 (of_bits binary64 0) (of_bits binary64 0) ≡ square_root binary64 x
 negative_root x h = (λ i. div binary64 (sym zero_bits i) (sym zero_bits i)) ∙ zero_by_zero ∙ below_zero x (ap (lt x) zero_bits ∙ h)
 
--- ---- above zero, and finite as not above the greatest finite value
-abbrev finite_above_zero : Float → Bool
-finite_above_zero x = lt (fin false 0 (pos 0)) x && le x greatest_finite
+-- ---- infinite
+not_finite : (x : Float) → ne x x ≡ false → lt x (fin false 0 (pos 0)) ≡ false → finite x ≡ false → x ≡ square_root binary64 x
+unfolding lt square_root
+not_finite nan h k l = absurd (true≢false (sym nan_differs ∙ h))
+not_finite (inf true) h k l = absurd (true≢false k)
+not_finite (inf false) h k l = refl
+not_finite (fin s m e) h k l = absurd (true≢false l)
 
-finite_above_zero_bits : (x : Float) → finite_above_zero x ≡ (lt (of_bits binary64 0) x && le x (of_bits binary64 0x7fefffffffffffff))
-finite_above_zero_bits x i = lt (zero_bits i) x && le x (greatest_finite_bits i)
+pub infinite_root : (x : Float) → ne x x ≡ false → lt x (of_bits binary64 0) ≡ false → finite x ≡ false → x ≡ square_root binary64 x
+infinite_root x h k l = not_finite x h (ap (lt x) zero_bits ∙ k) l
 
-finite_above_zero_lem : (x : Float) → finite_above_zero x ≡ true → T (positive x)
-unfolding lt le
-finite_above_zero_lem nan h = absurd (false≢true h)
-finite_above_zero_lem (inf true) h = absurd (false≢true h)
-finite_above_zero_lem (inf false) h = absurd (false≢true h)
-finite_above_zero_lem (fin true m e) h = absurd (false≢true h)
-finite_above_zero_lem (fin false m e) h =
-    let a = ltb (0 * 1 * down e) (m * up e * 1) in
-    let b = le (fin false m e) greatest_finite in
-    let above : 0 * 1 * down e < m * up e * 1 = ltb→lt (0 * 1 * down e) (m * up e * 1) (and_l a b (subst T (sym h) tt)) in
-    lt→ltb 0 m (first_pos m (up e) (some (m * up e) (0 * 1 * down e) above))
+-- ---- above zero
+left_over : (x : Float) → eq x (fin false 0 (pos 0)) ≡ false → lt x (fin false 0 (pos 0)) ≡ false → finite x ≡ true → T (positive x)
+unfolding lt eq
+left_over nan h k l = absurd (false≢true l)
+left_over (inf s) h k l = absurd (false≢true l)
+left_over (fin false zero e) h k l = absurd (true≢false (sym (both (eqb (zero * up e * 1) (0 * 1 * down e)) (subst (λ (x : ℕ). T (eqb (zero * up e * 1) x)) (zero_size e) (eqb_refl (zero * up e * 1)))) ∙ h))
   where
-    some : (a b : ℕ) → b < a * 1 → 0 < a
-    some a b h = omega arith
-
-pub above_zero : (x : Float) → (lt (of_bits binary64 0) x && le x (of_bits binary64 0x7fefffffffffffff)) ≡ true → T (positive x)
-above_zero x h = finite_above_zero_lem x (finite_above_zero_bits x ∙ h)
-
--- ---- neither that nor below zero: a zero, +∞ or a NaN
-left_over : (x : Float) → T (fits binary64 x) → finite_above_zero x ≡ false → lt x (fin false 0 (pos 0)) ≡ false → x ≡ square_root binary64 x
-unfolding lt le square_root
-left_over nan f h k = refl
-left_over (inf true) f h k = absurd (true≢false k)
-left_over (inf false) f h k = refl
-left_over (fin s zero e) f h k = refl
-left_over (fin true (suc m) e) f h k =
+    both : (b : Bool) → T b → (b && (true || eqb (zero * up e * 1) 0)) ≡ true
+    both true t = refl
+    both false t = absurd t
+left_over (fin false (suc m) e) h k l = lt→ltb 0 (suc m) (zero-lt-suc m)
+left_over (fin true zero e) h k l =
+    absurd (true≢false (sym (both (eqb (zero * up e * 1) (0 * 1 * down e)) (eqb (zero * up e * 1) 0)
+    (subst (λ (x : ℕ). T (eqb (zero * up e * 1) x)) (zero_size e) (eqb_refl (zero * up e * 1)))
+    (subst (λ (x : ℕ). T (eqb (zero * up e * 1) x)) (zero_size e ∙ zero-mul (down e)) (eqb_refl (zero * up e * 1)))) ∙ h))
+  where
+    both : (b c : Bool) → T b → T c → (b && (false || c)) ≡ true
+    both true true t u = refl
+    both true false t u = absurd u
+    both false c t u = absurd t
+left_over (fin true (suc m) e) h k l =
     absurd (none (suc m * up e * 1) (0 * 1 * down e) (subst (λ (x : ℕ). 0 < x) (sym (mul-one (suc m * up e))) (mul-pos (zero-lt-suc m) (up_pos e)))
     (nltb→le 0 (suc m * up e * 1 + 0 * 1 * down e) (subst (λ (b : Bool). T (not b)) (sym k) tt)))
   where
     none : (a b : ℕ) → 0 < a → a + b ≤ 0 → ⊥
     none a b p q = omega arith
-left_over (fin false (suc m) e) f h k =
-    let x = fin false (suc m) e in
-    let above : 0 * 1 * down e < suc m * up e * 1 = subst (λ (z : ℕ). z < suc m * up e * 1) (sym (zero-mul (down e))) (subst (λ (z : ℕ). 0 < z) (sym (mul-one (suc m * up e))) (mul-pos (zero-lt-suc m) (up_pos e))) in
-    absurd (both (ltb (0 * 1 * down e) (suc m * up e * 1)) (le x greatest_finite) (lt→ltb (0 * 1 * down e) (suc m * up e * 1) above) (not_above_greatest x f (lt→ltb 0 (suc m) (zero-lt-suc m))) h)
-  where
-    both : (a b : Bool) → T a → T b → (a && b) ≡ false → ⊥
-    both true true t u h = true≢false h
-    both true false t u h = u
-    both false b t u h = t
 
-pub own_root : (x : Float) → T (fits binary64 x) → (lt (of_bits binary64 0) x && le x (of_bits binary64 0x7fefffffffffffff)) ≡ false → lt x (of_bits binary64 0) ≡ false → x ≡ square_root binary64 x
-own_root x f h k = left_over x f (finite_above_zero_bits x ∙ h) (ap (lt x) zero_bits ∙ k)
+pub above_zero : (x : Float) → eq x (of_bits binary64 0) ≡ false → lt x (of_bits binary64 0) ≡ false → finite x ≡ true → T (positive x)
+above_zero x h k l = left_over x (ap (eq x) zero_bits ∙ h) (ap (lt x) zero_bits ∙ k) l
 
 -- ---- a value above zero, as a / 2 ^ 1074
 own_sign : (x : Float) (s : Bool) (a c : ℕ) → T (positive x) → HasValue x s a c → HasValue x false a c

@@ -1,20 +1,15 @@
--- The digits of a root, with a sticky bit where a remainder is left, round as the root itself; and 54 digits round by the last of them alone. Assumes nothing.
-use Rattle.std.proofs.Common.{◌≡◌, ℕ, zero, suc, ◌+◌, ◌-◌, ◌*◌, ◌/◌, ◌%◌, ◌^◌, ◌<◌, ◌≤◌, Bool, true, false, cond, T, eqb, sym, refl, ap, ◌∙◌, inl, inr, le_trans, le_of_eq, lt_of_lt_of_le, le-add_right, lt_of_le_of_lt, add-zero, mul-le-mul_right, mul_assoc, mul_comm, add-mul, mul-lt-mul_of_pos_right, mul-pos, div-add-mod', zero-add, mul-add, mul-div_cancel, mul_left_comm, arith, lit<, eqb→eq, pow_pos, pow-add}
+-- The digits of a root, with a sticky bit where a remainder is left, round as the root itself. Assumes nothing.
+use Rattle.std.proofs.Common.{◌≡◌, ℕ, ◌+◌, ◌*◌, ◌/◌, ◌%◌, ◌^◌, ◌<◌, ◌≤◌, Bool, true, false, cond, T, eqb, ◌⊎◌, sym, refl, ap, ◌∙◌, inl, inr, le_trans, le_of_eq, lt_of_lt_of_le, le-add_right, lt_of_le_of_lt, add-zero, mul-le-mul_right, mul_assoc, mul_comm, add-mul, mul-lt-mul_of_pos_right, mul-pos, div-add-mod', mul-add, mul-div_cancel, mul_left_comm, arith, eqb→eq, pow_pos, pow-add}
 use native.Mathlib.Nat.{eq_of_mul-eq-mul_right, mul-mul-mul_comm, mul-mod_left, div-eq_of_lt-le, div-div-eq-div-mul, mul-div-mul_right}
 use lib.Pow.{high, low}
-use lib.Ieee.{binary64, size, round, of_bits}
+use lib.Ieee.{binary64, size, round}
 use lib.Ieee.Bits.{is_true}
 use lib.Ieee.Fits.{eq→eqb}
-use lib.Ieee.Nearest.{closest}
-use Rattle.words.proofs.Order.{lt_or_le}
 use Rattle.words.specs.Sticky.{StickyEquivalent}
 use Rattle.words.proofs.StickyShift.{multiple_split, sticky_rescale}
 use Rattle.rounding.specs.Scale.{high_word_scale}
-use Rattle.rounding.proofs.Nearest.{closest_by_addition}
 use Rattle.rounding.proofs.RoundSticky.{round_sticky}
-use Rattle.rounding.proofs.RoundWord.{normal_pattern}
 use Rattle.root.specs.Root.{integer_root, root_in_halves, scaled_root}
-use Rattle.root.proofs.Digits.{odd_square}
 use Rattle.root.proofs.IntegerRoot.{square_lt, square_lt_back, integer_root_lem}
 
 next_square : (q m u : ℕ) → m ≤ 2 * q → q * q + m ≡ u → u < (q + 1) * (q + 1)
@@ -135,7 +130,7 @@ module _ (q m u A : ℕ) (le : m ≤ 2 * q) (is : q * q + m ≡ u) (A_pos : 0 < 
           ∙ sym (ap (λ (x : ℕ). 2 ^ 2340 * (2 * x * 2 ^ 10)) (a ∙ pow-add 2 h 483) ∙ right (2 ^ 2340) 2 (2 ^ h) (2 ^ 483) (2 ^ 10))
 
 -- ---- as the program has it: 54 digits are found of the root of w * 2 ^ 44
-full_significand : (q m w : ℕ) → m ≤ 2 * q → q * q + m ≡ w * 2 ^ 44 → 2 ^ 62 ≤ w → 2 ^ 53 ≤ q
+pub full_significand : (q m w : ℕ) → m ≤ 2 * q → q * q + m ≡ w * 2 ^ 44 → 2 ^ 62 ≤ w → 2 ^ 53 ≤ q
 full_significand q m w h e l =
     let a : 2 ^ 53 < q + 1 = square_lt_back (2 ^ 53) (q + 1) (lt_of_le_of_lt (mul-le-mul_right (2 ^ 44) l) (next_square q m (w * 2 ^ 44) h e)) in
     omega arith
@@ -143,68 +138,29 @@ full_significand q m w h e l =
 pub significand_lt : (q m w : ℕ) → q * q + m ≡ w * 2 ^ 44 → w < 2 ^ 64 → q < 2 ^ 54
 significand_lt q m w e l = square_lt_back q (2 ^ 54) (let k : q * q < 2 ^ 54 * 2 ^ 54 = omega arith in k)
 
--- the sticky bit of a remainder
-abbrev sticky_bit : ℕ → ℕ
-sticky_bit zero = 0
-sticky_bit (suc m) = 1
+-- s is the sticky bit of the remainder m
+abbrev pub StickyBit : ℕ → ℕ → Type 0
+StickyBit m s = ((m ≡ 0) × (s ≡ 0)) ⊎ ((m ≡ 0 → ⊥) × (s ≡ 1))
 
-sticky_root_lt : (m : ℕ) → sticky_bit m < 2 ^ 10
-sticky_root_lt zero = lit< tt
-sticky_root_lt (suc m) = lit< tt
+pub sticky_root_lt : (m s : ℕ) → StickyBit m s → s < 2 ^ 10
+sticky_root_lt m s (inl (z, e)) = omega arith
+sticky_root_lt m s (inr (z, e)) = omega arith
 
-sticky_zero : (m : ℕ) → m ≡ 0 → sticky_bit m ≡ 0
-sticky_zero zero h = refl
-sticky_zero (suc m) h = absurd (omega arith)
+sticky_zero : (m s : ℕ) → StickyBit m s → m ≡ 0 → s ≡ 0
+sticky_zero m s (inl (z, e)) h = e
+sticky_zero m s (inr (z, e)) h = absurd (z h)
 
-zero_sticky : (m : ℕ) → sticky_bit m ≡ 0 → m ≡ 0
-zero_sticky zero h = refl
-zero_sticky (suc m) h = absurd (omega arith)
+zero_sticky : (m s : ℕ) → StickyBit m s → s ≡ 0 → m ≡ 0
+zero_sticky m s (inl (z, e)) h = z
+zero_sticky m s (inr (z, e)) h = absurd (omega arith)
 
-word_rounds : (q m w h : ℕ) → m ≤ 2 * q → q * q + m ≡ w * 2 ^ 44 → 2 ^ 62 ≤ w
-    → round binary64 false ((q * 2 ^ 10 + sticky_bit m) * 2 ^ (h + 1739)) (2 ^ high_word_scale) ≡ scaled_root binary64 (w * 2 ^ (2 * h + 1010))
+pub word_rounds : (q m w h s : ℕ) → m ≤ 2 * q → q * q + m ≡ w * 2 ^ 44 → 2 ^ 62 ≤ w → StickyBit m s
+    → round binary64 false ((q * 2 ^ 10 + s) * 2 ^ (h + 1739)) (2 ^ high_word_scale) ≡ scaled_root binary64 (w * 2 ^ (2 * h + 1010))
 unfolding radicand
-word_rounds q m w h le e l =
-    root_rounds q m (w * 2 ^ 44) (2 ^ (h + 483)) le e (pow_pos (h + 483)) h (sticky_bit m) refl (full_significand q m w le e l) (sticky_root_lt m) (sticky_zero m) (zero_sticky m) ∙ ap (scaled_root binary64) scaled
+word_rounds q m w h s le e l bit =
+    root_rounds q m (w * 2 ^ 44) (2 ^ (h + 483)) le e (pow_pos (h + 483)) h s refl (full_significand q m w le e l) (sticky_root_lt m s bit) (sticky_zero m s bit) (zero_sticky m s bit) ∙ ap (scaled_root binary64) scaled
   where
     scaled : w * 2 ^ 44 * (2 ^ (h + 483) * 2 ^ (h + 483)) ≡ w * 2 ^ (2 * h + 1010)
     scaled =
         mul_assoc w (2 ^ 44) (2 ^ (h + 483) * 2 ^ (h + 483))
         ∙ ap (λ (x : ℕ). w * x) (ap (λ (x : ℕ). 2 ^ 44 * x) (sym (pow-add 2 (h + 483) (h + 483))) ∙ sym (pow-add 2 44 (h + 483 + (h + 483))) ∙ ap (λ (x : ℕ). 2 ^ x) (let k : 44 + (h + 483 + (h + 483)) ≡ 2 * h + 1010 = omega arith in k))
-
--- ---- never halfway: a last digit 1 with no remainder would make an odd square
-even_root : (q w : ℕ) → q * q ≡ w * 2 ^ 44 → q % 2 ≡ 0
-even_root q w e = elim (lt_or_le (q % 2) 1) [
-  | inl even ↦ omega arith
-  | inr odd ↦
-      let is : q ≡ q / 2 * 2 + 1 = omega arith in
-      let square : q * q ≡ q / 2 * (q / 2) * 4 + q / 2 * 4 + 1 = ap (λ (x : ℕ). x * x) is ∙ odd_square (q / 2) in
-      absurd (omega arith)
-]
-
--- so the last digit alone rounds the 54 digits to 53, up where it is 1 (IEEE 754-2019, 4.3.1)
-rounded_root : (q m w : ℕ) → q * q + m ≡ w * 2 ^ 44 → (q + 1) / 2 ≡ closest (q * 2 ^ 10 + sticky_bit m) (2 ^ 11)
-rounded_root q zero w e =
-    let even = even_root q w (let k : q * q ≡ w * 2 ^ 44 = omega arith in k) in
-    let quotient : (q * 2 ^ 10 + 0) / 2 ^ 11 ≡ q / 2 = omega arith in
-    let rest : (q * 2 ^ 10 + 0) % 2 ^ 11 ≡ 0 = omega arith in
-    (let k : (q + 1) / 2 ≡ (q * 2 ^ 10 + 0) / 2 ^ 11 + ((q * 2 ^ 10 + 0) % 2 ^ 11 + (2 ^ 10 - 1) + (q * 2 ^ 10 + 0) / 2 ^ 11 % 2) / 2 ^ 11 = omega arith in k)
-    ∙ closest_by_addition (q * 2 ^ 10 + 0) (2 ^ 11) (2 ^ 10) (lit< tt) refl
-rounded_root q (suc m) w e = by_last_digit ∙ closest_by_addition (q * 2 ^ 10 + 1) (2 ^ 11) (2 ^ 10) (lit< tt) refl
-  where
-    by_last_digit : (q + 1) / 2 ≡ (q * 2 ^ 10 + 1) / 2 ^ 11 + ((q * 2 ^ 10 + 1) % 2 ^ 11 + (2 ^ 10 - 1) + (q * 2 ^ 10 + 1) / 2 ^ 11 % 2) / 2 ^ 11
-    by_last_digit = elim (lt_or_le (q % 2) 1) [
-      | inl even ↦ omega arith
-      | inr odd ↦ omega arith
-    ]
-
--- the bit pattern of the rounded root, whose exponent is in the normal range
-pub root_pattern : (q m w h : ℕ) → m ≤ 2 * q → q * q + m ≡ w * 2 ^ 44 → 2 ^ 62 ≤ w → w < 2 ^ 64 → h ≤ 1050 → of_bits binary64 ((h + 484) * 2 ^ 52 + (q + 1) / 2) ≡ scaled_root binary64 (w * 2 ^ (2 * h + 1010))
-root_pattern q m w h le e l u short =
-    let word = q * 2 ^ 10 + sticky_bit m in
-    let bit = sticky_root_lt m in
-    let top : 2 ^ 63 ≤ word = let k = full_significand q m w le e l in omega arith in
-    let fits : word < 2 ^ 64 = let k = significand_lt q m w e u in omega arith in
-    ap (λ (x : ℕ). of_bits binary64 ((h + 484) * 2 ^ 52 + x)) (rounded_root q m w e)
-    ∙ ap (of_bits binary64) (sym (zero-add ((h + 484) * 2 ^ 52 + closest word (2 ^ 11))))
-    ∙ normal_pattern binary64 false word (h + 1739) 1266 top fits (h + 484) (let k : h + 484 + (1266 + 53) ≡ 64 + (h + 1739) = omega arith in k) (let k : h + 484 ≤ 2045 = omega arith in k)
-    ∙ word_rounds q m w h le e l

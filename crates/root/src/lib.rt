@@ -1,6 +1,8 @@
 // Square root on binary64: square_root (IEEE 754-2019, 5.4.1), rounded to nearest, ties to even (IEEE
 // 754-2019, 4.3.1). The digits of the root come at once, from a candidate that is tested, or one by
 // one.
+#![tactic(auto)]
+
 ghost use Rattle.std.specs.Prelude.{◌≡◌, ◌+◌, ◌*◌, ◌^◌, ◌<◌, ◌≤◌, T};
 ghost use Rattle.std.specs.Float.{binary64};
 ghost use Rattle.std.specs.Float.Ieee.Positive.{positive};
@@ -9,7 +11,7 @@ ghost use Rattle.root.specs.Digits.{scaled_radicand};
 
 // A square root that is worked out digit by digit: the radicand's digits still to come, the
 // remainder of those taken, and the root's digits so far.
-#[derive(Drop)]
+#[derive(Clone, Copy)]
 pub struct RootState {
     pub radicand: u64,
     pub remainder: u64,
@@ -57,7 +59,7 @@ fn next_digits(s: RootState, count: u64) -> RootState
 }
 
 // The number significand^2 + remainder.
-#[derive(Drop)]
+#[derive(Clone, Copy)]
 pub struct RootAndRemainder {
     pub significand: u64,
     pub remainder: u64,
@@ -111,7 +113,7 @@ fn reciprocal_root(word: u64) -> u64
 }
 
 // The number high * 2^22 + low.
-#[derive(Drop)]
+#[derive(Clone, Copy)]
 pub struct RootCandidate {
     pub high: u64,
     pub low: u64,
@@ -169,20 +171,18 @@ fn root_digits(radicand: u64) -> RootAndRemainder
     }
 }
 
-// The root of radicand * 4^half / 2^1138, rounded (IEEE 754-2019, 4.3.1). In units of 4^-1074, as
-// `scaled_root` has it, the value is radicand * 2^(2 half + 1010). The root has 54 digits before its
-// remainder, one more than a significand. It is never halfway between two doubles: were its last
-// digit 1 and nothing left, radicand * 2^44 would be the square of an odd number. So that digit alone
-// rounds, up where it is 1, and the result does not wait for the remainder. The root is normal, as
-// half is small, and the leading bit of its significand, or a carry out of it, adds to the exponent's
-// field.
+// The root of radicand * 4^half / 2^1138, rounded (IEEE 754-2019, 4.3.1). In units of 4^-1074, as `scaled_root` has it, the
+// value is radicand * 2^(2 half + 1010). The 53 digits of a significand and one more decide, with a
+// sticky bit for those further down: they are all 0 exactly where no remainder is left. The 54
+// digits are brought to the top of a word.
 fn root_of_word(radicand: u64, half: u64) -> f64
     requires fact_1 { 2 ^ 62 ≤ radicand }
-    requires fact_2 { half ≤ 1050 }
+    requires fact_2 { half < 2 ^ 31 }
     ensures { result ≡ scaled_root binary64 (radicand * 2 ^ (2 * half + 1010)) }
 {
     let root = root_digits(radicand);
-    f64::from_bits((half + 484) * 0x10_0000_0000_0000 + (root.significand + 1) / 2)
+    let sticky: u64 = if root.remainder == 0 { 0 } else { 1 };
+    rounding::round_and_pack_word(false, root.significand * 1024 + sticky, half + 1739)
 }
 
 // The root of a value above zero. Its significand is brought to its top bit, or to the one below
@@ -199,16 +199,22 @@ fn root_of_positive(x: f64) -> f64
 }
 
 // The square root, rounded to nearest, ties to even (IEEE 754-2019, 4.3.1). A zero is its own root,
-// and so are +∞ and NaN; a number below zero has none. The common case comes first: above zero and
-// finite.
+// and so are +∞ and NaN; a number below zero has none.
 pub fn sqrt(x: f64) -> f64
     ensures { result ≡ square_root binary64 x }
 {
-    if (x > 0.0) & (x <= 1.7976931348623157e308) {
-        return root_of_positive(x);
+    if x != x {
+        return x;
+    }
+    if x == 0.0 {
+        return x;
     }
     if x < 0.0 {
         return 0.0 / 0.0;
     }
-    x
+    if rounding::is_finite(x) {
+        root_of_positive(x)
+    } else {
+        x
+    }
 }

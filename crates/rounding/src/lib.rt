@@ -1,5 +1,7 @@
 // A double taken apart into sign, significand and exponent, and the one function that rounds an exact
 // value, to nearest, ties to even (IEEE 754-2019, 4.3.1), and packs it again.
+#![tactic(auto)]
+
 ghost use Rattle.std.specs.Prelude.{◌≡◌, cond, ◌+◌, ◌*◌, ◌%◌, ◌^◌, ◌<◌, ◌≤◌, T};
 ghost use Rattle.std.specs.Float.{binary64};
 ghost use Rattle.std.specs.Float.Ieee.{of_bits, round};
@@ -19,7 +21,7 @@ pub fn is_finite(x: f64) -> bool
 }
 
 // The value significand * 2^exponent / 2^1074, with its sign.
-#[derive(Drop)]
+#[derive(Clone, Copy)]
 pub struct Unpacked {
     pub negative: bool,
     pub significand: u64,
@@ -51,7 +53,7 @@ pub fn unpack(x: f64) -> Unpacked
 }
 
 // The value significand * 2^exponent / 2^1138.
-#[derive(Drop)]
+#[derive(Clone, Copy)]
 pub struct NormalisedSignificand {
     pub significand: u64,
     pub exponent: u64,

@@ -35,6 +35,7 @@ module _ {A : Type 0} where
 
   pub member_filter : (p : A → Bool) (l : List A) (a : A) → Memᴰ a l → p a ≡ true → Memᴰ a (filter p l)
   unfolding filter
+  member_filter p [] a x'' t = elim x'' [ ]
   member_filter p (x ∷ xs) a (Memᴰ.head e) t = rw (ap p (sym e) ∙ t) (Memᴰ.head e)
   member_filter p (x ∷ xs) a (Memᴰ.tail m) t = go (p x) (member_filter p xs a m t)
     where
@@ -98,6 +99,7 @@ pub member_flat_map : {A B : Type 0} (f : A → List B) (l : List A) (a : A) (b 
 unfolding flat_map
 member_flat_map {A} {B} f (x ∷ xs) a b (Memᴰ.head e) k = Memᴰ.append_left (flat_map f xs) (subst (λ (z : A). Memᴰ b (f z)) e k)
 member_flat_map f (x ∷ xs) a b (Memᴰ.tail m) k = Memᴰ.append_right (f x) (member_flat_map f xs a b m k)
+member_flat_map {A = A} {B = B} f [] a b x'' k = elim x'' [ ]
 
 -- ---- of the numbers below n
 pub filter_range_member : (p : ℕ → Bool) (n x : ℕ) → Memᴰ x (filter_range p n) → (x < n) × (p x ≡ true)

@@ -23,6 +23,7 @@ use Rattle.sequences.proofs.Filter.{filter_member, member_filter, filter_append,
 module _ {A : Type 0} where
   -- each element of the first list stands in the relation to each of the second
   pub pairwise_across : (R : A → A → Type 0) (l r : List A) (x y : A) → Pairwise R (l ++ r) → Memᴰ x l → Memᴰ y r → R x y
+  pairwise_across R [] r x y h x5 my = elim x5 [ ]
   pairwise_across R (z ∷ l) r x y h (Memᴰ.head e) my = rw e (h.0 y (after l my))
     where
       after : (l : List A) → Memᴰ y r → Memᴰ y (l ++ r)
@@ -124,6 +125,7 @@ module _ {A : Type 0} where
   without : {a : A} (l : List A) → Memᴰ a l → List A
   without (x ∷ l) (Memᴰ.head e) = l
   without (x ∷ l) (Memᴰ.tail m) = x ∷ without l m
+  without {a = a} [] x' = elim x' [ ]
 
   length_without : {a : A} (l : List A) (m : Memᴰ a l) → length l ≡ suc (length (without l m))
   unfolding without

@@ -69,6 +69,7 @@ module _ {A : Type 0} where
   pub member_get_d : (a : A) (l : List A) (d : A) → Memᴰ a l → (i : ℕ) × (i < length l) × (get_or l i d ≡ a)
   member_get_d a (x ∷ xs) d (Memᴰ.head e) = (0, omega arith, sym e)
   member_get_d a (x ∷ xs) d (Memᴰ.tail m) = let r = member_get_d a xs d m in (suc r.0, omega arith, r.2)
+  member_get_d a [] d x' = elim x' [ ]
 
   pub tabulate_member : (n : ℕ) (f : ℕ → A) (a : A) → Memᴰ a (tabulate n f) → (i : ℕ) × (i < n) × (f i ≡ a)
   tabulate_member n f a m =

@@ -1,5 +1,7 @@
 // Vectors of three doubles, as document 01's section "Vectors" gives them: each operation is a stated sequence of single roundings
 // (IEEE 754-2019, 4.3.1).
+#![tactic(auto)]
+
 ghost use Rattle.std.specs.Prelude.{◌≡◌};
 ghost use Rattle.vector.specs.Vector.{vector, zero_vector, dot_product, cross_product, vector_difference, vector_sum, vector_multiple, vector_quotient, squared_length, length_of, normalized};
 ghost use Rattle.vector.specs.Triangle.{weights};
@@ -9,7 +11,7 @@ use refusal::Refusal;
 use root::sqrt;
 
 #[repr(C)]
-#[derive(Drop)]
+#[derive(Clone, Copy)]
 pub struct Vector3 {
     pub x: f64,
     pub y: f64,
@@ -121,7 +123,7 @@ impl Vector3 {
 }
 
 // The ids of a triangle's corners, as both locators answer them.
-#[derive(Drop)]
+#[derive(Clone, Copy)]
 pub struct Triple {
     pub first: u16,
     pub second: u16,
@@ -130,7 +132,7 @@ pub struct Triple {
 
 // The weights of a triangle's corners, in their order.
 #[repr(C)]
-#[derive(Drop)]
+#[derive(Clone, Copy)]
 pub struct Weights {
     pub u: f64,
     pub v: f64,
@@ -147,7 +149,7 @@ impl Weights {
 
 // A direction that row 9 lets pass, or its refusal, for a caller that tests one alone. Queries test row 9 in its place among their own
 // checks, by `is_admissible`, and take a Vector3.
-#[derive(Drop)]
+#[derive(Clone, Copy)]
 pub enum Direction {
     Refused(Refusal),
     Accepted(Vector3),

@@ -1,4 +1,6 @@
 // The breadth-first order of a mesh's vertices.
+#![tactic(auto)]
+
 ghost use Rattle.std.specs.Prelude.{ℕ, ◌≤◌, ◌<◌, ◌≡◌, length, take};
 ghost use mathlib.Core.List.{[], ◌∷◌, Memᴰ};
 ghost use Rattle.sequences.specs.Starts.{part};
@@ -9,14 +11,14 @@ ghost use Rattle.walk.specs.Buffers.{Holding, Walkable, Traversed};
 use refusal::{Refusal, Verdict};
 
 // What a walk answers: the first row that refuses, or the count of entries read.
-#[derive(Drop)]
+#[derive(Clone, Copy)]
 pub enum Walk {
     Refused(Refusal),
     Walked(u32),
 }
 
 // How many vertices entered the queue, and how many entries were read.
-#[derive(Drop)]
+#[derive(Clone, Copy)]
 pub struct Reach {
     pub vertices: usize,
     pub entries: usize,

@@ -1,11 +1,13 @@
 // Numbers of one and two 64-bit words: sum, difference, order, choice and product, right shifts that
 // keep a sticky bit, and the left shift that brings a number to its top bit.
+#![tactic(auto)]
+
 ghost use Rattle.std.specs.Prelude.{◌≡◌, ◌+◌, ◌-◌, ◌*◌, ◌^◌, ◌<◌, ◌≤◌, if◌then◌else◌, nat_lt};
 ghost use Rattle.words.specs.Value.{value};
 ghost use Rattle.words.specs.Sticky.{StickyEquivalent};
 
 // The number hi * 2^64 + lo.
-#[derive(Drop)]
+#[derive(Clone, Copy)]
 pub struct TwoWords {
     pub hi: u64,
     pub lo: u64,
@@ -130,7 +132,7 @@ pub fn shift_words_right_sticky(x: TwoWords, shift: u64) -> TwoWords
 }
 
 // A number brought to its top bit, and the left shift that brought it there.
-#[derive(Drop)]
+#[derive(Clone, Copy)]
 pub struct Normalised {
     pub words: TwoWords,
     pub shift: u64,

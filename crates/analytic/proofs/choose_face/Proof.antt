@@ -1,7 +1,7 @@
 -- `analytic::choose_face` meets its contract. Assumes nothing.
 use Rattle.analytic.specs.FaceChoice.{choose_face}
-use borrow.Author.Tests.{le-leb, lt-leb}
-use borrow.Author.Rules.{rules}
+use Rattle.std.proofs.Common.{rules, le-leb}
+use borrow.Author.Tests.{lt-leb}
 use Rattle.analytic.proofs.choose_face.Statement.{statement}
 use Rattle.analytic.proofs.choose_face.Tie as tie
 

@@ -1,6 +1,6 @@
 -- `analytic::clamped_slot` meets its contract. Assumes nothing.
 use Rattle.analytic.specs.SubTriangle.{clamped_slot}
-use borrow.Author.Rules.{rules}
+use Rattle.std.proofs.Common.{rules}
 use Rattle.analytic.proofs.clamped_slot.Statement.{statement}
 use Rattle.analytic.proofs.clamped_slot.Tie as tie
 

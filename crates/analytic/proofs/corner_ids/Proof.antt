@@ -1,6 +1,6 @@
 -- `analytic::corner_ids` meets its contract. Assumes nothing.
 use Rattle.analytic.specs.Location.{corner_ids}
-use borrow.Author.Rules.{rules}
+use Rattle.std.proofs.Common.{rules}
 use Rattle.analytic.proofs.corner_ids.Statement.{statement}
 use Rattle.analytic.proofs.corner_ids.Tie as tie
 

@@ -1,5 +1,5 @@
 -- `analytic::find_nearest_vertex` meets its contract. Assumes nothing.
-use borrow.Author.Rules.{rules}
+use Rattle.std.proofs.Common.{rules}
 use Rattle.analytic.specs.Location.{corner_of, analytic_nearest}
 use Rattle.analytic.proofs.find_nearest_vertex.Statement.{statement}
 use Rattle.analytic.proofs.find_nearest_vertex.Tie as tie

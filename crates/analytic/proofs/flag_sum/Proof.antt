@@ -1,6 +1,6 @@
 -- `analytic::flag_sum` meets its contract. Assumes nothing.
 use Rattle.analytic.specs.FaceChoice.{flag_sum}
-use borrow.Author.Rules.{rules}
+use Rattle.std.proofs.Common.{rules}
 use Rattle.analytic.proofs.flag_sum.Statement.{statement}
 use Rattle.analytic.proofs.flag_sum.Tie as tie
 

@@ -1,10 +1,7 @@
 -- `analytic::id_at` meets its contract. Assumes nothing.
-use native.Mathlib.Nat.{mul-le-mul_right}
-use Prim.Native.Nat.{◌+◌, ◌*◌, ◌<◌}
-use native.Mathlib.Omega.{arith}
+use Rattle.std.proofs.Common.{◌+◌, ◌*◌, ◌<◌, mul-le-mul_right, arith, rules}
 use Rattle.analytic.specs.Location.{id_at}
 use Rattle.analytic.proofs.TableIndex.{clamped_slot_below, index_below}
-use borrow.Author.Rules.{rules}
 use Rattle.analytic.proofs.id_at.Statement.{statement}
 use Rattle.analytic.proofs.id_at.Tie as tie
 

@@ -1,7 +1,7 @@
 -- `analytic::last_greatest` meets its contract. Assumes nothing.
-use borrow.Author.Tests.{le-leb, lt-leb}
+use Rattle.std.proofs.Common.{rules, le-leb}
+use borrow.Author.Tests.{lt-leb}
 use Rattle.analytic.specs.Location.{last_greatest}
-use borrow.Author.Rules.{rules}
 use Rattle.analytic.proofs.last_greatest.Statement.{statement}
 use Rattle.analytic.proofs.last_greatest.Tie as tie
 

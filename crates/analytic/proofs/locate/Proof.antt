@@ -1,5 +1,5 @@
 -- `analytic::locate` meets its contract. Assumes nothing.
-use borrow.Author.Rules.{rules}
+use Rattle.std.proofs.Common.{rules}
 use Rattle.analytic.proofs.locate.Statement.{statement}
 use Rattle.analytic.proofs.locate.Tie as tie
 

@@ -1,8 +1,7 @@
 -- `analytic::master_face` meets its contract. Assumes nothing.
 use Rattle.analytic.proofs.FaceMapping.{mapped_face_below}
 use Rattle.analytic.specs.FaceChoice.{outside_first, face_choice_of}
-use native.Mathlib.Omega.{arith}
-use borrow.Author.Rules.{rules}
+use Rattle.std.proofs.Common.{arith, rules}
 use Rattle.analytic.proofs.master_face.Statement.{statement}
 use Rattle.analytic.proofs.master_face.Tie as tie
 

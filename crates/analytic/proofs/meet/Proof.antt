@@ -1,11 +1,6 @@
 -- `analytic::meet` meets its contract: the rows in their order, then the triangle on the face. Assumes nothing.
-use mathlib.Core.Path.{◌≡◌, sym, ◌∙◌}
-use mathlib.Core.Bool.{true}
-use Prim.Native.Nat.{◌*◌, ◌≤◌, ◌<◌}
-use native.Mathlib.Omega.{arith}
-use lib.Dec.{leb}
-use lib.ListN.{length}
-use borrow.Author.Tests.{le-leb, lt-leb, not-true, not-false}
+use Rattle.std.proofs.Common.{◌≡◌, ◌*◌, ◌<◌, ◌≤◌, true, leb, length, sym, ◌∙◌, arith, rules, le-leb}
+use borrow.Author.Tests.{lt-leb, not-true, not-false}
 use Rattle.refusal.specs.declared.Verdict.TheVariants.{Passed}
 use Rattle.refusal.specs.Refusal.{refusal, row, answer}
 use Rattle.vector.specs.Direction.{admissible}
@@ -17,7 +12,6 @@ use Rattle.analytic.specs.Location.{locate_on, analytic_locate}
 use Rattle.analytic.specs.FaceChoice.{signs_of, outside_first, flag_sum, flags_fit, mapped_face}
 use Rattle.analytic.proofs.FaceMapping.{mapped_face_below}
 use Rattle.analytic.proofs.Answers.{face_chosen, face_refused, refused_1, refused_8, refused_9, refused_10, location_accepted}
-use borrow.Author.Rules.{rules}
 use Rattle.analytic.proofs.meet.Statement.{statement}
 use Rattle.analytic.proofs.meet.Tie as tie
 

@@ -1,6 +1,6 @@
 -- `analytic::signs_of` meets its contract. Assumes nothing.
 use Rattle.analytic.specs.FaceChoice.{signs_of}
-use borrow.Author.Rules.{rules}
+use Rattle.std.proofs.Common.{rules}
 use Rattle.analytic.proofs.signs_of.Statement.{statement}
 use Rattle.analytic.proofs.signs_of.Tie as tie
 

@@ -1,8 +1,7 @@
 -- `analytic::sub_triangle_at` meets its contract. Assumes nothing.
 use Rattle.analytic.proofs.ClampedFloor.{clamped_floor_le}
 use Rattle.analytic.specs.SubTriangle.{sub_triangle_at}
-use native.Mathlib.Omega.{arith}
-use borrow.Author.Rules.{rules}
+use Rattle.std.proofs.Common.{arith, rules}
 use Rattle.analytic.proofs.sub_triangle_at.Statement.{statement}
 use Rattle.analytic.proofs.sub_triangle_at.Tie as tie
 

@@ -1,10 +1,7 @@
 -- `analytic::sub_triangle_on` meets its contract. Assumes nothing.
 use Rattle.analytic.specs.SubTriangle.{sub_triangle_on}
 use lib.Ieee.{in_float}
-use lib.Dec.{le→leb}
-use native.Mathlib.Omega.{arith}
-use Prim.Native.Nat.{◌^◌}
-use borrow.Author.Rules.{rules}
+use Rattle.std.proofs.Common.{◌^◌, arith, le→leb, rules}
 use Rattle.analytic.proofs.sub_triangle_on.Statement.{statement}
 use Rattle.analytic.proofs.sub_triangle_on.Tie as tie
 

@@ -1,6 +1,6 @@
 -- `analytic::triple_below` meets its contract. Assumes nothing.
 use Rattle.analytic.specs.Location.{triple_below}
-use borrow.Author.Rules.{rules}
+use Rattle.std.proofs.Common.{rules}
 use Rattle.analytic.proofs.triple_below.Statement.{statement}
 use Rattle.analytic.proofs.triple_below.Tie as tie
 

@@ -6,21 +6,21 @@ use Rattle.binary64.proofs.TotalOrder.{rank_of_nan}
 use Rattle.binary64.proofs.rank.Statement.{statement}
 use Rattle.binary64.proofs.rank.Tie as tie
 
-rank_of_bits_requires : tie.Need-rank-of-bits-requires
+rank_of_bits_requires : tie.Need-rank_of_bits-requires
 rank_of_bits_requires c κs = search rules
 
-returns : tie.Need-returns
-returns c = c.rank-of-bits.ensures ∙ sym rank_of_nan ∙ ap rank_of (sym (is_nan_lem c.before.before.args.x c.before.if1.true))
+returns : tie.Need-returns-then-x
+returns c = c.rank_of_bits.ensures ∙ sym rank_of_nan ∙ ap rank_of (sym (is_nan_lem c.before.before.args.x c.before.if-x.true))
 
-float_to_bits_rank_of_bits : tie.Need-float-to-bits-rank-of-bits
-float_to_bits_rank_of_bits c = no_nan c.before.args.x c.if1.false
+float_to_bits_rank_of_bits : tie.Need-float_to_bits-x
+float_to_bits_rank_of_bits c = no_nan c.before.args.x c.if-x.false
 
-rank_of_bits_requires_2 : tie.Need-rank-of-bits-requires-2
+rank_of_bits_requires_2 : tie.Need-rank_of_bits-requires-2
 rank_of_bits_requires_2 c κs = search rules
 
-returns_2 : tie.Need-returns-2
+returns_2 : tie.Need-returns-then-x
 unfolding rank_of
-returns_2 c = c.rank-of-bits2.ensures
+returns_2 c = c.rank_of_bits-2.ensures
 
 pub rank_spec : {M : Type 1} → statement M
 rank_spec =

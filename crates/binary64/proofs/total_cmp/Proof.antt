@@ -4,23 +4,23 @@ use Rattle.binary64.proofs.TotalOrder.{total_ordering_less, total_ordering_equal
 use Rattle.binary64.proofs.total_cmp.Statement.{statement}
 use Rattle.binary64.proofs.total_cmp.Tie as tie
 
-rank_of_bits_requires : tie.Need-rank-of-bits-requires
+rank_of_bits_requires : tie.Need-rank_of_bits-rank_x-requires
 rank_of_bits_requires c κs = search rules
 
-rank_of_bits_requires_2 : tie.Need-rank-of-bits-requires-2
+rank_of_bits_requires_2 : tie.Need-rank_of_bits-rank_y-requires
 rank_of_bits_requires_2 c κs = search rules
 
-returns : tie.Need-returns
+returns : tie.Need-returns-then-rank_x-rank_y
 returns c =
     let k = c.before.before.before in
     sym (total_ordering_less k.args.x k.args.y (omega arith) (omega arith) (omega arith))
 
-returns_2 : tie.Need-returns-2
+returns_2 : tie.Need-returns-then-rank_x-rank_y-2
 returns_2 c =
     let k = c.before.before.before.before in
     sym (total_ordering_equal k.args.x k.args.y (omega arith) (omega arith) (omega arith))
 
-returns_3 : tie.Need-returns-3
+returns_3 : tie.Need-returns-else-rank_x-rank_y-2
 returns_3 c =
     let k = c.before.before.before.before in
     sym (total_ordering_greater k.args.x k.args.y (omega arith) (omega arith) (omega arith))

@@ -9,29 +9,29 @@ use Rattle.binary64.proofs.whole_digits.Statement.{statement}
 use Rattle.binary64.proofs.whole_digits.Tie as tie
 
 of_format : (c : tie.Start) → T (fits binary64 c.args.x)
-of_format c = passes (fits binary64 c.args.x) c.well-formed.0.1
+of_format c = passes (fits binary64 c.args.x) c.well_formed.0.1
 
-shifted_by : (c : tie.Joined1) → Shift (1075 - to_bits binary64 c.before.args.x / 2 ^ 52) c.if1.shift
-shifted_by c = ⊎_elim (λ w. inl (w.0.taken, w.1)) (λ w. inr (w.0.left, w.1)) c.if1.branch
+shifted_by : (c : tie.Joined-fraction-lt63) → Shift (1075 - to_bits binary64 c.before.args.x / 2 ^ 52) c.if-fraction-lt63.shift
+shifted_by c = ⊎_elim (λ w. inl (w.0.taken, w.1)) (λ w. inr (w.0.left, w.1)) c.if-fraction-lt63.branch
 
-float_to_bits_bits : tie.Need-float-to-bits-bits
+float_to_bits_bits : tie.Need-float_to_bits-bits
 float_to_bits_bits c = subst (λ (b : Bool). T (not b)) (sym (lt_right_number positive_zero c.args.x c.requires.0)) tt
 
-add_digits : tie.Need-overflow-add-digits
+add_digits : tie.Need-overflow_add-digits
 add_digits c = search rules
 
-sub_fraction : tie.Need-overflow-sub-fraction
+sub_fraction : tie.Need-overflow_sub-fraction
 unfolding of_bits
 sub_fraction c = field_small c.args.x (of_format c) c.requires.0 c.requires.1
 
-shr_result : tie.Need-overflow-shr-result
+shr_result : tie.Need-overflow_shr-result
 shr_result c = ⊎_elim (λ w. omega (arith, w.0, w.1)) (λ w. omega (arith, w.1)) (shifted_by c.before)
 
 returns : tie.Need-returns
 unfolding of_bits
 returns c =
     let start = c.before.before in
-    digits_shifted start.args.x (of_format start) start.requires.0 start.requires.1 c.before.if1.shift (shifted_by c.before)
+    digits_shifted start.args.x (of_format start) start.requires.0 start.requires.1 c.before.if-fraction-lt63.shift (shifted_by c.before)
 
 pub whole_digits_spec : {M : Type 1} → statement M
 whole_digits_spec =

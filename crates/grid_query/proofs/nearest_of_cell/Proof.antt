@@ -1,4 +1,4 @@
--- `grid_query::nearest_of_cell` meets its contract: rows 18, 3 and 11 in the cell, then row 4 and the nearest of its part of the ids. Assumes nothing.
+-- `grid_query::nearest_of_cell` meets its contract: rows 18, 3, 11 and 4 in the cell, then the nearest of its part of the ids. Assumes nothing.
 use Rattle.std.proofs.Common.{◌≡◌, ℕ, ◌+◌, ◌-◌, ◌<◌, ◌≤◌, Bool, true, false, List, length, get_or, take, drop, sym, ap, ◌∙◌, add-one, arith, rules, le-ltb, lt-ltb, le-leb}
 use borrow.Author.Tests.{lt-leb}
 use Rattle.mesh.specs.Mesh.{vertex_count}
@@ -7,7 +7,7 @@ use Rattle.grid.specs.declared.settings.Settings.{Settings}
 use Rattle.grid.specs.Grid.{Grid}
 use Rattle.grid.specs.Stored.{lent_grid}
 use Rattle.grid_query.specs.Cell.{part_within, candidates}
-use Rattle.grid_query.specs.Nearest.{nearest_of_ids, nearest_of_cell}
+use Rattle.grid_query.specs.Nearest.{nearest_of_cell}
 use Rattle.grid_query.proofs.Parts.{length_taken, falling_tested, part_tested, candidates_read}
 use Rattle.grid_query.proofs.nearest_of_cell.Statement.{statement}
 use Rattle.grid_query.proofs.nearest_of_cell.Tie as tie
@@ -104,6 +104,12 @@ part_part_start c = omega (arith, inside c.before)
 part_part_end : tie.Need-slice-bounds-part-end
 part_part_end c = omega (arith, inside c.before)
 
+vertex_count_requires : tie.Need-vertex-count-requires
+vertex_count_requires c κs = search rules
+
+ids_below_requires : tie.Need-ids-below-requires
+ids_below_requires c κs = search rules
+
 -- what is tested of the part where it is not empty
 some : (c : tie.After-part) → 0 < length (part_of c.before.before.before.before)
 some c =
@@ -112,19 +118,35 @@ some c =
     let so-long = part_length e in
     omega (arith, c.before.if3.false)
 
+below : (c : tie.After-ids-below) (found : Bool) → c.ids_below_lem.result ≡ found
+    → let k = c.before.before.before.before.before.before in ids_below (vertex_count (the_start k).args.positions.now) (part_of k) ≡ found
+below c found e = ap (λ (n : ℕ). ids_below n (part_of c.before.before.before.before.before.before)) (sym c.before.vertex-count.ensures) ∙ sym c.ids_below_lem.ensures ∙ e
+
 nearest_in_cell_requires : tie.Need-nearest-in-cell-requires
 nearest_in_cell_requires c κs =
-    let e = c.before.before in
-    let k = e.before.before in
-    (some c, omega (arith, part_length e, k.shared-slice-known5.given ((the_start k).args.cell + 1)))
-
-returns_4 : tie.Need-returns-4
-unfolding nearest_of_cell nearest_of_ids
-returns_4 c = λ settings side triangle-starts triples.
-    let p = c.before in
+    let p = c.before.before.before in
     let e = p.before.before in
     let k = e.before.before in
-    rw (← (are_candidates k settings side triangle-starts triples), ascends e.before, within e, lt-ltb 0 (length (part_of k)) (some p)) c.nearest-in-cell.ensures
+    (some p, (omega (arith, part_length e, k.shared-slice-known5.given ((the_start k).args.cell + 1)), below c.before true c.if4.true))
+
+new_requires_3 : tie.Need-new-requires-3
+new_requires_3 c κs = search rules
+
+returns_4 : tie.Need-returns-4
+unfolding nearest_of_cell
+returns_4 c = λ settings side triangle-starts triples.
+    let p = c.before.before.before.before in
+    let e = p.before.before in
+    let k = e.before.before in
+    rw (← (are_candidates k settings side triangle-starts triples), ascends e.before, within e, lt-ltb 0 (length (part_of k)) (some p), below c.before.before true c.before.if4.true) c.nearest-in-cell.ensures
+
+returns_5 : tie.Need-returns-5
+unfolding nearest_of_cell
+returns_5 c = λ settings side triangle-starts triples.
+    let p = c.before.before.before.before in
+    let e = p.before.before in
+    let k = e.before.before in
+    rw (c.new3.ensures, ← (are_candidates k settings side triangle-starts triples), ascends e.before, within e, lt-ltb 0 (length (part_of k)) (some p), below c.before.before false c.before.if4.false)
 
 pub nearest_of_cell_spec : {M : Type 1} → statement M
 nearest_of_cell_spec =
@@ -146,5 +168,9 @@ nearest_of_cell_spec =
     mul_part
     part_part_start
     part_part_end
+    vertex_count_requires
+    ids_below_requires
     nearest_in_cell_requires
-    returns_4)
+    new_requires_3
+    returns_4
+    returns_5)

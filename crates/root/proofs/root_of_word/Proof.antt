@@ -1,9 +1,6 @@
--- `root::root_of_word` meets its contract: the 54 digits round as the root does. Assumes nothing.
-use Rattle.std.proofs.Common.{◌^◌, ◌<◌, le_trans, arith, rules}
-use native.Mathlib.Nat.{mod-le}
-use lib.Ieee.{binary64}
-use Rattle.rounding.proofs.BitPattern.{not_nan_pattern}
-use Rattle.root.proofs.StickyRoot.{significand_lt, root_pattern}
+-- `root::root_of_word` meets its contract: the 54 digits and the sticky bit round as the root does. Assumes nothing.
+use Rattle.std.proofs.Common.{◌^◌, ◌<◌, ◌∙◌, inl, inr, ⊎_elim, arith, rules}
+use Rattle.root.proofs.StickyRoot.{StickyBit, sticky_root_lt, full_significand, significand_lt, word_rounds}
 use Rattle.root.proofs.root_of_word.Statement.{statement}
 use Rattle.root.proofs.root_of_word.Tie as tie
 
@@ -11,38 +8,42 @@ use Rattle.root.proofs.root_of_word.Tie as tie
 fits : (c : tie.After-root-digits) → c.root-digits.result.significand < 2 ^ 54
 fits c = significand_lt _ _ _ c.root-digits.ensures.1 (search rules)
 
+bit : (c : tie.Joined1) → StickyBit c.before.before.root-digits.result.remainder c.if1.sticky
+bit c = ⊎_elim (λ w. inl (w.0.taken, w.1)) (λ w. inr (w.0.left, w.1)) c.if1.branch
+
 root_digits_requires : tie.Need-root-digits-requires
 root_digits_requires c κs = search rules
 
-add_result : tie.Need-overflow-add-result
-add_result c = search rules
+mul_round_and_pack_word : tie.Need-overflow-mul-round-and-pack-word
+mul_round_and_pack_word c = omega (arith, fits c.before.before.before)
 
-mul_result : tie.Need-overflow-mul-result
-mul_result c = search rules
+add_round_and_pack_word : tie.Need-overflow-add-round-and-pack-word
+add_round_and_pack_word c =
+    let j = c.before.before in
+    omega (arith, fits j.before.before, sticky_root_lt _ _ (bit j))
 
-add_result_2 : tie.Need-overflow-add-result-2
-add_result_2 c = omega (arith, fits c.before)
+add_round_and_pack_word_2 : tie.Need-overflow-add-round-and-pack-word-2
+add_round_and_pack_word_2 c = search rules
 
-add_result_3 : tie.Need-overflow-add-result-3
-add_result_3 c = omega (arith, fits c.before)
-
-float_from_bits_result : tie.Need-float-from-bits-result
-float_from_bits_result c = not_nan_pattern binary64 _ (le_trans (mod-le _ (2 ^ 63)) (omega (arith, fits c.before)))
+round_and_pack_word_requires : tie.Need-round-and-pack-word-requires
+round_and_pack_word_requires c κs =
+    let a = c.before.before.before.before in
+    omega (arith, full_significand _ _ _ a.root-digits.ensures.0 a.root-digits.ensures.1 a.before.requires.0)
 
 returns : tie.Need-returns
 returns c =
-    let a = c.before in
-    let s = a.before in
-    root_pattern a.root-digits.result.significand a.root-digits.result.remainder s.args.radicand s.args.half a.root-digits.ensures.0 a.root-digits.ensures.1 s.requires.0 (search rules) s.requires.1
+    let j = c.before.before.before in
+    let a = j.before.before in
+    c.round-and-pack-word.ensures
+    ∙ word_rounds a.root-digits.result.significand a.root-digits.result.remainder a.before.args.radicand a.before.args.half j.if1.sticky a.root-digits.ensures.0 a.root-digits.ensures.1 a.before.requires.0 (bit j)
 
 pub root_of_word_spec : {M : Type 1} → statement M
 root_of_word_spec =
     tie.close
     (tie.spec
     root_digits_requires
-    add_result
-    mul_result
-    add_result_2
-    add_result_3
-    float_from_bits_result
+    mul_round_and_pack_word
+    add_round_and_pack_word
+    add_round_and_pack_word_2
+    round_and_pack_word_requires
     returns)

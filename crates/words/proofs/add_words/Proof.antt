@@ -4,21 +4,21 @@ use Rattle.words.proofs.TwoDigits.{carry_is, sum_value, sum_high_lt}
 use Rattle.words.proofs.add_words.Statement.{statement}
 use Rattle.words.proofs.add_words.Tie as tie
 
-wrapping_add_u64_requires : tie.Need-wrapping-add-u64-requires
+wrapping_add_u64_requires : tie.Need-wrapping_add_u64-lo-requires
 wrapping_add_u64_requires c κs = search rules
 
-carried : (c : tie.Joined1) → c.before.before.before.args.x.lo + c.before.before.before.args.y.lo ≡ c.if1.carry * 2 ^ 64 + c.before.before.wrapping-add-u64.result
+carried : (c : tie.Joined-lo-x) → c.before.before.before.args.x.lo + c.before.before.before.args.y.lo ≡ c.if-lo-x.carry * 2 ^ 64 + c.before.before.wrapping_add_u64-lo.result
 carried c =
-    carry_is (2 ^ 64) _ _ _ _ (search rules) (search rules) c.before.before.wrapping-add-u64.ensures
-    (⊎_elim (λ w. inl (w.0.taken, w.1)) (λ w. inr (w.0.left, w.1)) c.if1.branch)
+    carry_is (2 ^ 64) _ _ _ _ (search rules) (search rules) c.before.before.wrapping_add_u64-lo.ensures
+    (⊎_elim (λ w. inl (w.if-lo-x.true, w.carry-is)) (λ w. inr (w.if-lo-x.false, w.carry-is)) c.if-lo-x.branch-raw)
 
-add_t7 : tie.Need-overflow-add-t7
+add_t7 : tie.Need-overflow_add-result
 add_t7 c =
     let j = c.before.before in
     let s = j.before.before.before in
-    record { fits = lt_of_le_of_lt (le-add_right _ j.if1.carry) (sum_high_lt (2 ^ 64) (2 ^ 64) _ _ _ _ _ _ (carried j) s.requires) }
+    record { fits = lt_of_le_of_lt (le-add_right _ j.if-lo-x.carry) (sum_high_lt (2 ^ 64) (2 ^ 64) _ _ _ _ _ _ (carried j) s.requires) }
 
-add_t8 : tie.Need-overflow-add-t8
+add_t8 : tie.Need-overflow_add-result-2
 add_t8 c =
     let j = c.before.before.before in
     let s = j.before.before.before in

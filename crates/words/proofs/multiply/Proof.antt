@@ -24,34 +24,34 @@ module _ (c : tie.Start) where
   high_high : a / 2 ^ 32 * (b / 2 ^ 32) ≤ 2 ^ 64 - 2 ^ 33 + 1
   high_high = halves_product_le _ _ (omega arith) (omega arith)
 
-mul_low : tie.Need-overflow-mul-low
+mul_low : tie.Need-overflow_mul-low
 mul_low c = omega (arith, low_low c)
 
-mul_middle : tie.Need-overflow-mul-middle
+mul_middle : tie.Need-overflow_mul-middle
 mul_middle c = omega (arith, high_low c)
 
-add_middle : tie.Need-overflow-add-middle
+add_middle : tie.Need-overflow_add-middle
 add_middle c = omega (arith, high_low c, low_low c)
 
-mul_cross : tie.Need-overflow-mul-cross
+mul_cross : tie.Need-overflow_mul-cross
 mul_cross c = omega (arith, low_high c)
 
-add_cross : tie.Need-overflow-add-cross
+add_cross : tie.Need-overflow_add-cross
 add_cross c = omega (arith, low_high c)
 
-mul_t10 : tie.Need-overflow-mul-t10
+mul_t10 : tie.Need-overflow_mul-result
 mul_t10 c = omega (arith, high_high c)
 
-add_t12 : tie.Need-overflow-add-t12
+add_t12 : tie.Need-overflow_add-result
 add_t12 c = omega (arith, high_high c, high_low c, low_low c)
 
-add_t14 : tie.Need-overflow-add-t14
+add_t14 : tie.Need-overflow_add-result-2
 add_t14 c = omega (arith, high_high c, high_low c, low_high c, low_low c)
 
-mul_t16 : tie.Need-overflow-mul-t16
+mul_t16 : tie.Need-overflow_mul-result-2
 mul_t16 c = search rules
 
-add_t18 : tie.Need-overflow-add-t18
+add_t18 : tie.Need-overflow_add-result-3
 add_t18 c = search rules
 
 returns : tie.Need-returns

@@ -15,20 +15,20 @@ by_a_word d n w v g a b =
     subst (λ (D : ℕ). StickyEquivalent 2 D n (0 * 2 ^ 64 + v)) (pow_split 64 d g)
     (subst (λ (t : ℕ). StickyEquivalent 2 (2 ^ 64 * 2 ^ (d - 64)) n t) (low_only v) (sticky_compose 2 (2 ^ 64) (2 ^ (d - 64)) n w v (omega arith) (pow_pos 64) (pow_pos (d - 64)) a b))
 
-shift_words_right_sticky_short_requires : tie.Need-shift-words-right-sticky-short-requires
+shift_words_right_sticky_short_requires : tie.Need-shift_words_right_sticky_short-requires
 shift_words_right_sticky_short_requires c κs = search rules
 
-returns : tie.Need-returns
+returns : tie.Need-returns-then-shift-lt64
 returns c = search rules
 
-collapse_sticky_requires : tie.Need-collapse-sticky-requires
+collapse_sticky_requires : tie.Need-collapse_sticky-word-requires
 collapse_sticky_requires c κs = search rules
 
-shift_right_sticky_requires : tie.Need-shift-right-sticky-requires
+shift_right_sticky_requires : tie.Need-shift_right_sticky-requires
 shift_right_sticky_requires c κs = search rules
 
-returns_2 : tie.Need-returns-2
-returns_2 c = by_a_word _ _ _ _ c.before.before.if1.false c.before.collapse-sticky.ensures c.shift-right-sticky.ensures
+returns_2 : tie.Need-returns
+returns_2 c = by_a_word _ _ _ _ c.before.before.if-shift-lt64.false c.before.collapse_sticky-word.ensures c.shift_right_sticky.ensures
 
 pub shift_words_right_sticky_spec : {M : Type 1} → statement M
 shift_words_right_sticky_spec =

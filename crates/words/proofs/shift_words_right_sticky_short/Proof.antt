@@ -29,46 +29,46 @@ module _ (d : ℕ) (D : d < 64) (h l : ℕ) (L : l < 2 ^ 64) where
   rest_is : (h * 2 ^ 64 + l) % 2 ^ d ≡ l % 2 ^ d
   rest_is = right_rest (2 ^ d) (2 ^ (64 - d)) (2 ^ 64) split (pow_pos d) (pow_pos (64 - d)) h l
 
-shr_kept : tie.Need-overflow-shr-kept
+shr_kept : tie.Need-overflow_shr-kept
 shr_kept c = search rules
 
-sub_lo : tie.Need-overflow-sub-lo
+sub_lo : tie.Need-overflow_sub-lo
 sub_lo c = search rules
 
-shl_lo : tie.Need-overflow-shl-lo
+shl_lo : tie.Need-overflow_shl-lo-2
 shl_lo c = search rules
 
-add_lo : tie.Need-overflow-add-lo
+add_lo : tie.Need-overflow_add-lo
 add_lo c = record { fits = low_lt c.args.shift (search rules) _ _ (search rules) }
 
-shr_t15 : tie.Need-overflow-shr-t15
+shr_t15 : tie.Need-overflow_shr-result
 shr_t15 c = search rules
 
-shl_if1 : tie.Need-overflow-shl-if1
+shl_if1 : tie.Need-overflow_shl-kept
 shl_if1 c = search rules
 
-mul_t25 : tie.Need-overflow-mul-t25
+mul_t25 : tie.Need-overflow_mul-result
 mul_t25 c = record { fits = last_cleared_lt _ (low_lt c.before.args.shift (search rules) _ _ (search rules)) }
 
-add_t22 : tie.Need-overflow-add-t22
+add_t22 : tie.Need-overflow_add-result
 add_t22 c = record { fits = last_set_lt _ (low_lt c.before.args.shift (search rules) _ _ (search rules)) }
 
-returns : tie.Need-returns
+returns : tie.Need-returns-then-kept-shift
 returns c =
     let d = c.before.args.shift in
     let x = c.before.args.x in
     let D : d < 64 = search rules in
     let L : x.lo < 2 ^ 64 = search rules in
-    shift_exact _ _ _ (pow_pos d) (value_is d D x.hi x.lo L) (rest_is d D x.hi x.lo L ∙ restored_exact (2 ^ d) (2 ^ 64) x.lo L c.if1.true)
+    shift_exact _ _ _ (pow_pos d) (value_is d D x.hi x.lo L) (rest_is d D x.hi x.lo L ∙ restored_exact (2 ^ d) (2 ^ 64) x.lo L c.if-kept-shift.true)
 
-returns_2 : tie.Need-returns-2
+returns_2 : tie.Need-returns-else-kept-shift
 returns_2 c =
     let d = c.before.args.shift in
     let x = c.before.args.x in
     let D : d < 64 = search rules in
     let L : x.lo < 2 ^ 64 = search rules in
     shift_inexact _ _ _ _ (pow_pos d) (value_is d D x.hi x.lo L) (sticky_low (x.hi / 2 ^ d) _)
-    (λ z. changed_inexact (2 ^ d) (2 ^ 64) x.lo L c.if1.false (sym (rest_is d D x.hi x.lo L) ∙ z))
+    (λ z. changed_inexact (2 ^ d) (2 ^ 64) x.lo L c.if-kept-shift.false (sym (rest_is d D x.hi x.lo L) ∙ z))
 
 pub shift_words_right_sticky_short_spec : {M : Type 1} → statement M
 shift_words_right_sticky_short_spec =
