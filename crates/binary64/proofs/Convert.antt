@@ -1,7 +1,7 @@
 -- Laws of the conversion to a signed 64-bit whole number, for callers. Assumes nothing.
 use Rattle.std.proofs.Common.{◌≡◌, ℕ, ◌-◌, ◌*◌, ◌/◌, ◌^◌, ◌<◌, min, true, false, pos, neg_ℤ, ap, true≢false}
 use mathlib.Core.Bool.{false≢true}
-use lib.Ieee.{Float, fin, up, down}
+use lib.Ieee.{nan, Float, fin, up, down, inf}
 use lib.Ieee.Exact.{HasValue}
 use lib.Ieee.Fits.{down_pos}
 use lib.Ieee.Nearest.{div_same}

@@ -1,7 +1,7 @@
 -- The order of two finite values of either sign, by the fractions that they equal. Assumes nothing.
 use Rattle.std.proofs.Common.{◌≡◌, ℕ, zero, suc, ◌+◌, ◌*◌, ◌<◌, ◌≤◌, Bool, true, false, not, ◌&&◌, ◌||◌, T, eqb, ltb, ℤ, pos, sym, refl, ap, ◌∙◌, subst, inl, inr, le_trans, le_of_eq, le_refl, le_of_lt, mul-le-mul_right, eq-or-lt_of_le, mul-zero, zero-mul, mul-one, le_of_mul-le-mul_right, arith, eqb→eq, ltb→lt, lt→ltb}
 use lib.Arith.{le-zero}
-use lib.Ieee.{Float, inf, fin, up, down, unlike, below, level, le, neg}
+use lib.Ieee.{Float, inf, fin, up, down, unlike, below, level, le, neg, nan}
 use lib.Ieee.Exact.{HasValue}
 use lib.Ieee.Fits.{and_i, and_l, and_r, eq→eqb, down_pos}
 use lib.Ieee.Order.{transfer}

@@ -1,7 +1,7 @@
 -- Whole numbers as doubles, and doubles as unsigned whole numbers: up to 2 ^ 53 the second undoes the first, `whole_converted`, and both keep the order. Assumes nothing.
 use Rattle.std.proofs.Common.{◌≡◌, ℕ, ◌+◌, ◌*◌, ◌/◌, ◌^◌, ◌<◌, ◌≤◌, true, false, T, pos, sym, refl, ap, ◌∙◌, subst, true≢false, zero-le, le_refl, div-one, arith}
 use native.Mathlib.Nat.{zero-div}
-use lib.Ieee.{Float, inf, fin, binary64, up, down, lt, le, of_int, to_unsigned}
+use lib.Ieee.{Float, inf, fin, binary64, up, down, lt, le, of_int, to_unsigned, nan}
 use lib.Ieee.Back.{round_whole}
 use lib.Ieee.Exact.{HasValue}
 use lib.Ieee.Fits.{down_pos}

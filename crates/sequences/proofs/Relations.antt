@@ -131,6 +131,7 @@ module _ {A : Type 0} where
   unfolding without
   length_without (x ∷ l) (Memᴰ.head e) = refl
   length_without (x ∷ l) (Memᴰ.tail m) = ap suc (length_without l m)
+  length_without {a = a} [] m = elim m [ ]
 
   member_without : {a : A} (l : List A) (m : Memᴰ a l) (b : A) → a ≢ b → Memᴰ b l → Memᴰ b (without l m)
   unfolding without
@@ -138,6 +139,7 @@ module _ {A : Type 0} where
   member_without (x ∷ l) (Memᴰ.head e) b other (Memᴰ.tail k) = k
   member_without (x ∷ l) (Memᴰ.tail m) b other (Memᴰ.head f) = Memᴰ.head f
   member_without (x ∷ l) (Memᴰ.tail m) b other (Memᴰ.tail k) = Memᴰ.tail (member_without l m b other k)
+  member_without {a = a} [] m b other _ = elim m [ ]
 
   pub distinct_shorter : (l r : List A) → Distinct l → ((a : A) → Memᴰ a l → Memᴰ a r) → length l ≤ length r
   distinct_shorter [] r d inside = omega arith

@@ -18,7 +18,7 @@ float_to_bits_rank_of_bits c = no_nan c.before.args.x c.if-x.false
 rank_of_bits_requires_2 : tie.Need-rank_of_bits-requires-2
 rank_of_bits_requires_2 c κs = search rules
 
-returns_2 : tie.Need-returns-then-x
+returns_2 : tie.Need-returns
 unfolding rank_of
 returns_2 c = c.rank_of_bits-2.ensures
 

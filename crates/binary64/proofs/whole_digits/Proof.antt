@@ -12,7 +12,7 @@ of_format : (c : tie.Start) → T (fits binary64 c.args.x)
 of_format c = passes (fits binary64 c.args.x) c.well_formed.0.1
 
 shifted_by : (c : tie.Joined-fraction-lt63) → Shift (1075 - to_bits binary64 c.before.args.x / 2 ^ 52) c.if-fraction-lt63.shift
-shifted_by c = ⊎_elim (λ w. inl (w.0.taken, w.1)) (λ w. inr (w.0.left, w.1)) c.if-fraction-lt63.branch
+shifted_by c = ⊎_elim (λ w. inl (w.if-fraction-lt63.true, w.shift-is)) (λ w. inr (w.if-fraction-lt63.false, w.shift-is)) c.if-fraction-lt63.branch-raw
 
 float_to_bits_bits : tie.Need-float_to_bits-bits
 float_to_bits_bits c = subst (λ (b : Bool). T (not b)) (sym (lt_right_number positive_zero c.args.x c.requires.0)) tt
