@@ -61,6 +61,8 @@ unfolding add of_bits
 added t a d (fin s n g) D v =
     rw v.0
     (sum_same binary64 t false (n * up g * 2) (1 * down g) (down g * 2) (a * 2) (1 * (d * 2)) (d * 2 * 2) (mul-pos (down_pos g) (lit< tt)) (mul-pos (mul-pos D (lit< tt)) (lit< tt)) (same_first (n * up g) d a (down g) v.1) (same_second d (down g)))
+added t a d nan D v = elim v [ ]
+added t a d (inf _) D v = elim v [ ]
 
 not_tiny : (s : Bool) (m : ℕ) (e : ℤ) → (lt least_product (fin s m e) || lt (fin s m e) (neg least_product)) ≡ true → down e < m * up e * 2 ^ 900
 unfolding neg lt

@@ -7,7 +7,7 @@ use native.Mathlib.Nat.{mul_comm, mul_assoc, mul_left_comm, mul-pos}
 use native.Mathlib.Omega.{arith}
 use borrow.Author.Tests.{ne_eqb}
 use lib.Dec.{T, ltb→lt}
-use lib.Ieee.{Float, inf, fin, Format, up, down, unlike, le, of_bits}
+use lib.Ieee.{Float, inf, fin, Format, up, down, unlike, le, of_bits, nan}
 use lib.Ieee.Fits.{down_pos}
 use lib.Ieee.Positive.{positive, positive-finite}
 use lib.Ieee.Scale.{finite}
@@ -38,15 +38,34 @@ fused_monotone f (fin s m e) (fin t n d) (fin t' n' d') (fin u o g) A B B' C not
     (signed_product s (m * up e) t (n * up d * down d' * common) t' (n' * up d' * down d * common) factor operands))
     (subst (λ (addend : ℕ). SignedLe u (o * up g * (down e * down d) * (down e * down d' * down g)) u addend) (simp (mul_assoc, mul_comm, mul_left_comm))
     (signed_refl u (o * up g * (down e * down d) * (down e * down d' * down g)))))
+fused_monotone f nan b _ c A B B' C not_below h = elim A [ ]
+fused_monotone f (inf _) b _ c A B B' C not_below h = elim A [ ]
+fused_monotone f (fin s m e) nan _ c A B B' C not_below h = elim B [ ]
+fused_monotone f (fin s m e) (inf _) _ c A B B' C not_below h = elim B [ ]
+fused_monotone f (fin s m e) (fin t n d) nan c A B B' C not_below h = elim B' [ ]
+fused_monotone f (fin s m e) (fin t n d) (inf _) c A B B' C not_below h = elim B' [ ]
+fused_monotone f (fin s m e) (fin t n d) (fin t' n' d') nan A B B' C not_below h = elim C [ ]
+fused_monotone f (fin s m e) (fin t n d) (fin t' n' d') (inf _) A B B' C not_below h = elim C [ ]
 
 -- ---- the order of the first factor, infinite ones included, beside one above zero
 factors_exchanged : (f : Format) (x y z : Float) → T (finite x) → T (finite y) → T (finite z) → fused_multiply_add f x y z ≡ fused_multiply_add f y x z
 unfolding fused_multiply_add
 factors_exchanged f (fin s m e) (fin t n d) (fin u o g) X Y Z = rw (unlike_comm s t, mul_comm (m * up e) (n * up d), mul_comm (down e) (down d))
+factors_exchanged f nan y z X Y Z = elim X [ ]
+factors_exchanged f (inf _) y z X Y Z = elim X [ ]
+factors_exchanged f (fin s m e) nan z X Y Z = elim Y [ ]
+factors_exchanged f (fin s m e) (inf _) z X Y Z = elim Y [ ]
+factors_exchanged f (fin s m e) (fin t n d) nan X Y Z = elim Z [ ]
+factors_exchanged f (fin s m e) (fin t n d) (inf _) X Y Z = elim Z [ ]
 
 fused_leaves_infinity : (f : Format) (y z : Float) (s : Bool) → T (positive y) → T (finite z) → fused_multiply_add f (inf s) y z ≡ inf s
 unfolding fused_multiply_add
 fused_leaves_infinity f (fin false n d) (fin u o g) s Y Z = let some : 0 < n = ltb→lt 0 n Y in rw (ne_eqb n 0 (λ k. omega arith), unlike_plus s)
+fused_leaves_infinity f nan z s Y Z = elim Y [ ]
+fused_leaves_infinity f (inf _) z s Y Z = elim Y [ ]
+fused_leaves_infinity f (fin false n d) nan s Y Z = elim Z [ ]
+fused_leaves_infinity f (fin false n d) (inf _) s Y Z = elim Z [ ]
+fused_leaves_infinity f (fin true n d) z s Y Z = elim Y [ ]
 
 pub fused_monotone_first : (f : Format) (x x' y z : Float) → T (positive y) → T (finite z) → T (le x x') → T (le (fused_multiply_add f x y z) (fused_multiply_add f x' y z))
 unfolding of_bits

@@ -6,7 +6,7 @@ use mathlib.Core.Bool.{Bool}
 use lib.Dec.{T, lit<}
 use lib.IntN.{ℤ, pos}
 use lib.Pow.{pow-add, pow_pos}
-use lib.Ieee.{Float, fin, Format, up, down, unlike, round, sum, add, mul}
+use lib.Ieee.{Float, fin, Format, up, down, unlike, round, sum, add, mul, inf, nan}
 use lib.Ieee.Exact.{HasValue}
 use lib.Ieee.Fits.{down_pos}
 use lib.Ieee.Scale.{finite}
@@ -40,6 +40,12 @@ fused_by_values f (fin sx m e) (fin sy n d) (fin sz o g) s t u A B O C P h k l =
     (mul-pos (mul-pos (down_pos e) (down_pos d)) (down_pos g)) (mul-pos (mul-pos P P) P)
     (product_cross (m * up e) (n * up d) (down g) A B (down e) (down d) C h.1 k.1)
     (addend_cross (o * up g) O (down e) (down d) (down g) C l.1)
+fused_by_values f nan y z s t u A B O C P h k l = elim h [ ]
+fused_by_values f (inf _) y z s t u A B O C P h k l = elim h [ ]
+fused_by_values f (fin sx m e) nan z s t u A B O C P h k l = elim k [ ]
+fused_by_values f (fin sx m e) (inf _) z s t u A B O C P h k l = elim k [ ]
+fused_by_values f (fin sx m e) (fin sy n d) nan s t u A B O C P h k l = elim l [ ]
+fused_by_values f (fin sx m e) (fin sy n d) (inf _) s t u A B O C P h k l = elim l [ ]
 
 -- ---- operands over 2 ^ l, product and addend over 2 ^ (2l + i)
 product_scaled : (A B C I S P : ℕ) → S ≡ C * C * I → P ≡ A * B * I → A * B * C * S ≡ P * (C * C * C)
@@ -99,3 +105,9 @@ product_zero x y A B de dd C P p q z =
 pub zero_product_apart : (f : Format) (x y z : Float) (s t : Bool) (A B C : ℕ) → 0 < C → HasValue x s A C → HasValue y t B C → T (finite z) → A * B ≡ 0 → add f (mul f x y) z ≡ fused_multiply_add f x y z
 zero_product_apart f (fin sx m e) (fin sy n d) (fin u o g) s t A B C P h k v zero-AB =
     apart f sx sy u m e n d o g (product_zero (m * up e) (n * up d) A B (down e) (down d) C P h.1 k.1 zero-AB)
+zero_product_apart f nan y z s t A B C P h k v zero-AB = elim h [ ]
+zero_product_apart f (inf _) y z s t A B C P h k v zero-AB = elim h [ ]
+zero_product_apart f (fin sx m e) nan z s t A B C P h k v zero-AB = elim k [ ]
+zero_product_apart f (fin sx m e) (inf _) z s t A B C P h k v zero-AB = elim k [ ]
+zero_product_apart f (fin sx m e) (fin sy n d) nan s t A B C P h k v zero-AB = elim v [ ]
+zero_product_apart f (fin sx m e) (fin sy n d) (inf _) s t A B C P h k v zero-AB = elim v [ ]

@@ -277,6 +277,9 @@ units_of f (fin false (suc m) e) t p =
       root_is = ap (scaled_root f)
           (ap (λ (z : ℕ). z / down e) (ap (λ (z : ℕ). suc m * up e * z) (pow-add 2 (low f) (low f)) ∙ sym (mul_assoc (suc m * up e) L L) ∙ ap (λ (z : ℕ). z * L) at.2 ∙ mul_right_comm c (down e) L) ∙ mul-div_cancel (c * L) (down_pos e));
     }
+units_of f nan t p = elim p [ ]
+units_of f (inf _) t p = elim p [ ]
+units_of f (fin true _ e) t p = elim p [ ]
 
 root_value : (f : Format) (x : Float) (u : UnitsOf f x) → HasValue (square_root f x) false (result f u.count u.some) (2 ^ low f)
 unfolding radicand

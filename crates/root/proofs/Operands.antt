@@ -112,6 +112,9 @@ above_zero x h k l = left_over x (ap (eq x) zero_bits ∙ h) (ap (lt x) zero_bit
 -- ---- a value above zero, as a / 2 ^ 1074
 own_sign : (x : Float) (s : Bool) (a c : ℕ) → T (positive x) → HasValue x s a c → HasValue x false a c
 own_sign (fin false m e) s a c p v = (refl, v.1)
+own_sign nan s a c p v = elim p [ ]
+own_sign (inf _) s a c p v = elim p [ ]
+own_sign (fin true m e) s a c p v = elim p [ ]
 
 of_finite : (m : ℕ) (e : ℤ) → square_root binary64 (fin false (suc m) e) ≡ scaled_root binary64 (suc m * up e * 2 ^ 2148 / down e)
 unfolding square_root
@@ -124,6 +127,9 @@ positive_root (fin false (suc m) e) s a p v =
     ∙ ap (scaled_root binary64)
     (ap (λ (x : ℕ). x / down e) (sym (mul_assoc (suc m * up e) (2 ^ 1074) (2 ^ 1074)) ∙ ap (λ (x : ℕ). x * 2 ^ 1074) v.1 ∙ mul_right_comm a (down e) (2 ^ 1074))
     ∙ mul-div_cancel (a * 2 ^ 1074) (down_pos e))
+positive_root nan s a p v = elim p [ ]
+positive_root (inf _) s a p v = elim p [ ]
+positive_root (fin true _ e) s a p v = elim p [ ]
 
 pub significand_positive : (x : Float) (s : Bool) (m e : ℕ) → T (positive x) → HasValue x s (m * 2 ^ e) (2 ^ 1074) → 0 < m
 significand_positive x s m e p v = first_pos m (2 ^ e) (value_pos x (m * 2 ^ e) (2 ^ 1074) p (pow_pos 1074) (own_sign x s (m * 2 ^ e) (2 ^ 1074) p v))

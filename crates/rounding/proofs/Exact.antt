@@ -9,7 +9,7 @@ use borrow.Author.Tests.{ne_eqb}
 use lib.Dec.{T, ltb→lt}
 use lib.IntN.{ℤ}
 use lib.Pow.{pow-add, pow_pos, pow_mono, shl_lt}
-use lib.Ieee.{Float, inf, fin, Format, prec, emax, low, up, down, unlike, round, sum, add, mul, div, le, fits}
+use lib.Ieee.{Float, inf, fin, Format, prec, emax, low, up, down, unlike, round, sum, add, mul, div, le, fits, nan}
 use lib.Ieee.Exact.{HasValue, round_exact}
 use lib.Ieee.Fits.{up_pos, down_pos, reach}
 use lib.Ieee.Order.{le_of_values, round_mono}
@@ -90,6 +90,10 @@ product_of_values f (fin u m e) (fin w n g) s a c t b d C D h k =
     (λ i. round f (unlike (h.0 i) (k.0 i)) (m * up e * (n * up g)) (down e * down g))
     ∙ round_same f (unlike s t) (m * up e * (n * up g)) (down e * down g) (a * b) (c * d) (mul-pos (down_pos e) (down_pos g)) (mul-pos C D)
     (mul-mul-mul_comm (m * up e) (n * up g) c d ∙ (λ i. h.1 i * k.1 i) ∙ mul-mul-mul_comm a (down e) b (down g))
+product_of_values f nan y s a c t b d C D h k = elim h [ ]
+product_of_values f (inf _) y s a c t b d C D h k = elim h [ ]
+product_of_values f (fin u m e) nan s a c t b d C D h k = elim k [ ]
+product_of_values f (fin u m e) (inf _) s a c t b d C D h k = elim k [ ]
 
 pub sum_of_values : (f : Format) (x y : Float) (s : Bool) (a : ℕ) (t : Bool) (b c : ℕ) → 0 < c → HasValue x s a c → HasValue y t b c → add f x y ≡ sum f s a t b c
 unfolding add
@@ -98,9 +102,17 @@ sum_of_values f (fin u m e) (fin w n g) s a t b c C h k =
     ∙ sum_same f s t (m * up e * down g) (n * up g * down e) (down e * down g) a b c (mul-pos (down_pos e) (down_pos g)) C
     (mul_right_comm (m * up e) (down g) c ∙ ap (λ (z : ℕ). z * down g) h.1 ∙ mul_assoc a (down e) (down g))
     (mul_right_comm (n * up g) (down e) c ∙ ap (λ (z : ℕ). z * down e) k.1 ∙ mul_assoc b (down g) (down e) ∙ ap (λ (z : ℕ). b * z) (mul_comm (down g) (down e)))
+sum_of_values f nan y s a t b c C h k = elim h [ ]
+sum_of_values f (inf _) y s a t b c C h k = elim h [ ]
+sum_of_values f (fin u m e) nan s a t b c C h k = elim k [ ]
+sum_of_values f (fin u m e) (inf _) s a t b c C h k = elim k [ ]
 
 pub quotient_of_values : (f : Format) (x y : Float) (s : Bool) (a c b d : ℕ) → 0 < c → 0 < b → 0 < d → HasValue x s a c → HasValue y false b d → div f x y ≡ round f s (a * d) (b * c)
 unfolding div
+quotient_of_values f nan y s a c b d C B D h k = elim h [ ]
+quotient_of_values f (inf _) y s a c b d C B D h k = elim h [ ]
+quotient_of_values f (fin u m e) nan s a c b d C B D h k = elim k [ ]
+quotient_of_values f (fin u m e) (inf _) s a c b d C B D h k = elim k [ ]
 quotient_of_values f (fin u m e) (fin true n g) s a c b d C B D h k = absurd (true≢false k.0)
 quotient_of_values f (fin u m e) (fin false n g) s a c b d C B D h k =
     let some : 0 < n = ltb→lt 0 n (positive_of_value (fin false n g) b d k B) in

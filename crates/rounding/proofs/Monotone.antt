@@ -10,7 +10,7 @@ use native.Mathlib.Omega.{arith}
 use borrow.Author.Tests.{lt-ltb, le-ltb, ne_eqb}
 use lib.Dec.{T, ltb→lt}
 use lib.IntN.{ℤ, pos}
-use lib.Ieee.{Float, inf, fin, Format, up, down, unlike, round, sum, add, mul, div, neg, le, is_nan}
+use lib.Ieee.{Float, inf, fin, Format, up, down, unlike, round, sum, add, mul, div, neg, le, is_nan, nan}
 use lib.Ieee.Bits.{is_true}
 use lib.Ieee.Fits.{up_pos, down_pos}
 use lib.Ieee.Order.{round_mono}
@@ -122,6 +122,14 @@ add_monotone f (fin s m e) (fin s' m' e') (fin t n d) (fin t' n' d') X X' Y Y' h
     (signed_same t (n * up d * down d' * (down e * down e')) (n * up d * down e * (down e' * down d')) t' (n' * up d' * down d * (down e * down e')) (n' * up d' * down e' * (down e * down d))
     (simp (mul_assoc, mul_comm, mul_left_comm)) (simp (mul_assoc, mul_comm, mul_left_comm))
     (signed_scaled (down e * down e') t (n * up d * down d') t' (n' * up d' * down d) (signed_of_finite t n d t' n' d' k)))
+add_monotone f nan _ y _ X X' Y Y' h k = elim X [ ]
+add_monotone f (inf _) _ y _ X X' Y Y' h k = elim X [ ]
+add_monotone f (fin s m e) nan y _ X X' Y Y' h k = elim X' [ ]
+add_monotone f (fin s m e) (inf _) y _ X X' Y Y' h k = elim X' [ ]
+add_monotone f (fin s m e) (fin s' m' e') nan _ X X' Y Y' h k = elim Y [ ]
+add_monotone f (fin s m e) (fin s' m' e') (inf _) _ X X' Y Y' h k = elim Y [ ]
+add_monotone f (fin s m e) (fin s' m' e') (fin t n d) nan X X' Y Y' h k = elim Y' [ ]
+add_monotone f (fin s m e) (fin s' m' e') (fin t n d) (inf _) X X' Y Y' h k = elim Y' [ ]
 
 -- ---- one rounding of a product with, or a quotient by, a value above zero
 -- y may be −0 or +0 here
@@ -134,6 +142,12 @@ mul_monotone_finite f (fin s m e) (fin t n d) (fin u k g) X X' Y not_below h =
     (signed_same (unlike s u) (m * up e * down d * down g * (k * up g)) (m * up e * (k * up g) * (down d * down g)) (unlike t u) (n * up d * down e * down g * (k * up g)) (n * up d * (k * up g) * (down e * down g))
     (simp (mul_assoc, mul_comm, mul_left_comm)) (simp (mul_assoc, mul_comm, mul_left_comm))
     (signed_product u (k * up g) s (m * up e * down d * down g) t (n * up d * down e * down g) factor (signed_scaled (down g) s (m * up e * down d) t (n * up d * down e) operands)))
+mul_monotone_finite f nan _ y X X' Y not_below h = elim X [ ]
+mul_monotone_finite f (inf _) _ y X X' Y not_below h = elim X [ ]
+mul_monotone_finite f (fin s m e) nan y X X' Y not_below h = elim X' [ ]
+mul_monotone_finite f (fin s m e) (inf _) y X X' Y not_below h = elim X' [ ]
+mul_monotone_finite f (fin s m e) (fin t n d) nan X X' Y not_below h = elim Y [ ]
+mul_monotone_finite f (fin s m e) (fin t n d) (inf _) X X' Y not_below h = elim Y [ ]
 
 pub div_monotone : (f : Format) (x x' y : Float) → T (finite x) → T (finite x') → T (positive y) → T (le x x') → T (le (div f x y) (div f x' y))
 unfolding div
@@ -146,10 +160,25 @@ div_monotone f (fin s m e) (fin t n d) (fin false k g) X X' Y h =
     (signed_same (unlike s false) (m * up e * down d * (down g * (k * up g))) (m * up e * down g * (k * up g * down d)) (unlike t false) (n * up d * down e * (down g * (k * up g))) (n * up d * down g * (k * up g * down e))
     (simp (mul_assoc, mul_comm, mul_left_comm)) (simp (mul_assoc, mul_comm, mul_left_comm))
     (signed_product false (down g * (k * up g)) s (m * up e * down d) t (n * up d * down e) (omega arith) operands)))
+div_monotone f nan _ y X X' Y h = elim X [ ]
+div_monotone f (inf _) _ y X X' Y h = elim X [ ]
+div_monotone f (fin s m e) nan y X X' Y h = elim X' [ ]
+div_monotone f (fin s m e) (inf _) y X X' Y h = elim X' [ ]
+div_monotone f (fin s m e) (fin t n d) nan X X' Y h = elim Y [ ]
+div_monotone f (fin s m e) (fin t n d) (inf _) X X' Y h = elim Y [ ]
+div_monotone f (fin s m e) (fin t n d) (fin true k g) X X' Y h = elim Y [ ]
 
 -- the divisor turns the order round, of what is not below zero
 pub div_antitone : (f : Format) (x y y' : Float) → T (finite x) → T (le (fin false 0 (pos 0)) x) → T (positive y) → T (positive y') → T (le y y') → T (le (div f x y') (div f x y))
 unfolding div
+div_antitone f nan y _ X not_below Y Y' h = elim X [ ]
+div_antitone f (inf _) y _ X not_below Y Y' h = elim X [ ]
+div_antitone f (fin s m e) nan _ X not_below Y Y' h = elim Y [ ]
+div_antitone f (fin s m e) (inf _) _ X not_below Y Y' h = elim Y [ ]
+div_antitone f (fin s m e) (fin false k g) nan X not_below Y Y' h = elim Y' [ ]
+div_antitone f (fin s m e) (fin false k g) (inf _) X not_below Y Y' h = elim Y' [ ]
+div_antitone f (fin s m e) (fin false k g) (fin true n d) X not_below Y Y' h = elim Y' [ ]
+div_antitone f (fin s m e) (fin true k g) _ X not_below Y Y' h = elim Y [ ]
 div_antitone f (fin s m e) (fin false k g) (fin false n d) X not_below Y Y' h =
     let some : 0 < k = ltb→lt 0 k Y in
     let some' : 0 < n = ltb→lt 0 n Y' in
@@ -170,6 +199,10 @@ div_antitone f (fin s m e) (fin false k g) (fin false n d) X not_below Y Y' h =
 -- ---- one rounding of a square
 pub square_monotone : (f : Format) (x y : Float) → T (finite x) → T (finite y) → T (le (abs x) (abs y)) → T (le (mul f x x) (mul f y y))
 unfolding mul abs
+square_monotone f nan y X Y h = elim X [ ]
+square_monotone f (inf _) y X Y h = elim X [ ]
+square_monotone f (fin s m e) nan X Y h = elim Y [ ]
+square_monotone f (fin s m e) (inf _) X Y h = elim Y [ ]
 square_monotone f (fin s m e) (fin t n d) X Y h =
     let sizes = signed_of_finite false m e false n d h in
     rw (like_itself s, like_itself t)
@@ -193,10 +226,18 @@ module _ (F : Float → Float) (leaves : (s : Bool) → F (inf s) ≡ inf s) (gr
   monotone_to_infinities (inf true) (fin t n d) h = rw (leaves true) (subst T (sym (infinity_least (F (fin t n d)) (stays_number t n d))) tt)
   monotone_to_infinities (fin s m e) (inf false) h = rw (leaves false) (subst T (sym (infinity_greatest (F (fin s m e)) (stays_number s m e))) tt)
   monotone_to_infinities (fin s m e) (fin t n d) h = grows (fin s m e) (fin t n d) tt tt h
+  monotone_to_infinities nan y h = elim h [ ]
+  monotone_to_infinities (inf s) nan h = elim h [ ]
+  monotone_to_infinities (inf false) (fin t n d) h = elim h [ ]
+  monotone_to_infinities (fin s m e) nan h = elim h [ ]
+  monotone_to_infinities (fin s m e) (inf true) h = elim h [ ]
 
 mul_leaves_infinity : (f : Format) (y : Float) (s : Bool) → T (positive y) → mul f (inf s) y ≡ inf s
 unfolding mul
 mul_leaves_infinity f (fin false k g) s Y = let some : 0 < k = ltb→lt 0 k Y in rw (ne_eqb k 0 (λ z. omega arith), unlike_plus s)
+mul_leaves_infinity f nan s Y = elim Y [ ]
+mul_leaves_infinity f (inf _) s Y = elim Y [ ]
+mul_leaves_infinity f (fin true k g) s Y = elim Y [ ]
 
 pub mul_monotone : (f : Format) (x x' y : Float) → T (positive y) → T (le x x') → T (le (mul f x y) (mul f x' y))
 mul_monotone f x x' y Y h =

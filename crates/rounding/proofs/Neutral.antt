@@ -27,6 +27,8 @@ bits_of_value f (fin t m e) s a c C h =
     let units : m * up e * 2 ^ low f / down e ≡ a * 2 ^ low f / c =
     div_same (m * up e * 2 ^ low f) (down e) (a * 2 ^ low f) c (down_pos e) C (mul_right_comm (m * up e) (2 ^ low f) c ∙ ap (λ (z : ℕ). z * 2 ^ low f) h.1 ∙ mul_right_comm a (down e) (2 ^ low f)) in
     λ i. pattern f (h.0 i) (units i)
+bits_of_value f nan s a c C h = elim h [ ]
+bits_of_value f (inf _) s a c C h = elim h [ ]
 
 pub value_unique : (f : Format) (x y : Float) (s : Bool) (a c : ℕ) → 0 < c → T (fits f x) → T (fits f y) → HasValue x s a c → HasValue y s a c → x ≡ y
 value_unique f x y s a c C p q h k =

@@ -30,6 +30,8 @@ unbounded_left f (inf false) nan infinite = unordered
 unbounded_left f (inf false) (inf true) infinite = unordered
 unbounded_left f (inf false) (inf false) infinite = infinite
 unbounded_left f (inf false) (fin s m e) infinite = infinite
+unbounded_left f (inf true) y x4 = elim x4 [ ]
+unbounded_left f (fin _ _ _) y x6 = elim x6 [ ]
 
 unbounded_right : (f : Format) (x y : Float) → Unbounded y → Unbounded (add f x y)
 unfolding add
@@ -39,11 +41,18 @@ unbounded_right f (inf true) (inf false) infinite = unordered
 unbounded_right f (inf false) (inf false) infinite = infinite
 unbounded_right f (fin s m e) nan unordered = unordered
 unbounded_right f (fin s m e) (inf false) infinite = infinite
+unbounded_right f (inf false) (inf true) h = elim h [ ]
+unbounded_right f (inf true) (inf true) h = elim h [ ]
+unbounded_right f (inf s) (fin _ _ _) h = elim h [ ]
+unbounded_right f (fin s m e) (inf true) h = elim h [ ]
+unbounded_right f (fin s m e) (fin _ _ _) h = elim h [ ]
 
 unbounded_above : (x : Float) (s : Bool) (m : ℕ) (e : ℤ) → Unbounded x → le x (fin s m e) ≡ false
 unfolding le lt eq
 unbounded_above nan s m e unordered = refl
 unbounded_above (inf false) s m e infinite = refl
+unbounded_above (inf true) s m e x4 = elim x4 [ ]
+unbounded_above (fin _ _ _) s m e x6 = elim x6 [ ]
 
 false_last : (p q : Bool) → q ≡ false → (p && q) ≡ false
 false_last true q e = e

@@ -4,16 +4,16 @@ use Rattle.root.proofs.Candidate.{halves_fit}
 use Rattle.root.proofs.newton_step.Statement.{statement}
 use Rattle.root.proofs.newton_step.Tie as tie
 
-mul_square : tie.Need-overflow-mul-square
+mul_square : tie.Need-overflow_mul-square
 mul_square c = record { fits = halves_fit _ _ c.requires.1 c.requires.1 }
 
-mul_wrapping_sub_u64 : tie.Need-overflow-mul-wrapping-sub-u64
+mul_wrapping_sub_u64 : tie.Need-overflow_mul-word
 mul_wrapping_sub_u64 c = record { fits = halves_fit _ _ c.requires.0 (omega arith) }
 
-wrapping_sub_u64_requires : tie.Need-wrapping-sub-u64-requires
+wrapping_sub_u64_requires : tie.Need-wrapping_sub_u64-requires
 wrapping_sub_u64_requires c κs = search rules
 
-mul_result : tie.Need-overflow-mul-result
+mul_result : tie.Need-overflow_mul-result
 mul_result c = record { fits = halves_fit _ _ c.before.requires.1 (omega arith) }
 
 returns : tie.Need-returns

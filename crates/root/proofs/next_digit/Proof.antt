@@ -16,46 +16,46 @@ doubled_le q = omega arith
 doubled_one_le : (q : ℕ) → q * 2 + 1 ≤ 2 * q + 1
 doubled_one_le q = omega arith
 
-mul_radicand : tie.Need-overflow-mul-radicand
+mul_radicand : tie.Need-overflow_mul-radicand
 mul_radicand c = search rules
 
-mul_remainder : tie.Need-overflow-mul-remainder
+mul_remainder : tie.Need-overflow_mul-remainder
 mul_remainder c = search rules
 
-add_remainder : tie.Need-overflow-add-remainder
+add_remainder : tie.Need-overflow_add-remainder
 add_remainder c = search rules
 
-mul_trial : tie.Need-overflow-mul-trial
+mul_trial : tie.Need-overflow_mul-trial
 mul_trial c = search rules
 
-add_trial : tie.Need-overflow-add-trial
+add_trial : tie.Need-overflow_add-trial
 add_trial c = search rules
 
-mul_t9 : tie.Need-overflow-mul-t9
+mul_t9 : tie.Need-overflow_mul-result
 mul_t9 c = search rules
 
-mul_t11 : tie.Need-overflow-mul-t11
+mul_t11 : tie.Need-overflow_mul-result-else-remainder-trial
 mul_t11 c = record { fits = doubled_lt _ c.before.before.before.before.before.before.requires.1 }
 
-add_t12 : tie.Need-overflow-add-t12
+add_t12 : tie.Need-overflow_add-result
 add_t12 c = record { fits = doubled_one_lt _ c.before.before.before.before.before.before.requires.1 }
 
-returns : tie.Need-returns
+returns : tie.Need-returns-then-remainder-trial
 returns c =
     let a = c.before.before.before.before.before.before in
     let s = a.args.s in (
-      zero_digit_remainder s.significand s.remainder s.radicand c.before.if1.true,
+      zero_digit_remainder s.significand s.remainder s.radicand c.before.if-remainder-trial.true,
       doubled_le s.significand,
       zero_digit_radicand s.significand s.remainder s.radicand,
     )
 
-returns_2 : tie.Need-returns-2
+returns_2 : tie.Need-returns-else-remainder-trial
 returns_2 c =
     let a = c.before.before.before.before.before.before in
     let s = a.args.s in (
       one_digit_remainder s.significand s.remainder s.radicand a.requires.0 (search rules),
       doubled_one_le s.significand,
-      one_digit_radicand s.significand s.remainder s.radicand c.before.if1.false,
+      one_digit_radicand s.significand s.remainder s.radicand c.before.if-remainder-trial.false,
     )
 
 pub next_digit_spec : {M : Type 1} → statement M

@@ -4,40 +4,40 @@ use Rattle.root.proofs.Candidate.{halves_fit}
 use Rattle.root.proofs.reciprocal_root.Statement.{statement}
 use Rattle.root.proofs.reciprocal_root.Tie as tie
 
-mul_bend : tie.Need-overflow-mul-bend
+mul_bend : tie.Need-overflow_mul-bend
 mul_bend c = search rules
 
-sub_bend : tie.Need-overflow-sub-bend
+sub_bend : tie.Need-overflow_sub-bend
 sub_bend c = search rules
 
-mul_bend_2 : tie.Need-overflow-mul-bend-2
+mul_bend_2 : tie.Need-overflow_mul-bend-2
 mul_bend_2 c = record { fits = halves_fit _ _ c.requires (omega arith) }
 
-mul_wrapping_sub_u64 : tie.Need-overflow-mul-wrapping-sub-u64
+mul_wrapping_sub_u64 : tie.Need-overflow_mul-upper
 mul_wrapping_sub_u64 c = search rules
 
-sub_wrapping_sub_u64 : tie.Need-overflow-sub-wrapping-sub-u64
+sub_wrapping_sub_u64 : tie.Need-overflow_sub-upper
 sub_wrapping_sub_u64 c = search rules
 
-wrapping_sub_u64_requires : tie.Need-wrapping-sub-u64-requires
+wrapping_sub_u64_requires : tie.Need-wrapping_sub_u64-slope-requires
 wrapping_sub_u64_requires c κs = search rules
 
-mul_fall : tie.Need-overflow-mul-fall
+mul_fall : tie.Need-overflow_mul-fall
 mul_fall c = record { fits = halves_fit _ _ c.before.requires (omega arith) }
 
-mul_wrapping_sub_u64_2 : tie.Need-overflow-mul-wrapping-sub-u64-2
+mul_wrapping_sub_u64_2 : tie.Need-overflow_mul-upper-2
 mul_wrapping_sub_u64_2 c = search rules
 
-sub_wrapping_sub_u64_2 : tie.Need-overflow-sub-wrapping-sub-u64-2
+sub_wrapping_sub_u64_2 : tie.Need-overflow_sub-upper-2
 sub_wrapping_sub_u64_2 c = search rules
 
-wrapping_sub_u64_requires_2 : tie.Need-wrapping-sub-u64-requires-2
+wrapping_sub_u64_requires_2 : tie.Need-wrapping_sub_u64-estimate-requires
 wrapping_sub_u64_requires_2 c κs = search rules
 
-newton_step_requires : tie.Need-newton-step-requires
+newton_step_requires : tie.Need-newton_step-requires
 newton_step_requires c κs = search rules
 
-newton_step_requires_2 : tie.Need-newton-step-requires-2
+newton_step_requires_2 : tie.Need-newton_step-requires-2
 newton_step_requires_2 c κs = search rules
 
 returns : tie.Need-returns

@@ -4,25 +4,25 @@ use Rattle.root.proofs.Candidate.{halves_fit}
 use Rattle.root.proofs.root_candidate.Statement.{statement}
 use Rattle.root.proofs.root_candidate.Tie as tie
 
-reciprocal_root_requires : tie.Need-reciprocal-root-requires
+reciprocal_root_requires : tie.Need-reciprocal_root-reciprocal-requires
 reciprocal_root_requires c κs = search rules
 
-mul_wrapping_sub_u64 : tie.Need-overflow-mul-wrapping-sub-u64
-mul_wrapping_sub_u64 c = record { fits = halves_fit _ _ (omega arith) c.reciprocal-root.ensures }
+mul_wrapping_sub_u64 : tie.Need-overflow_mul-word
+mul_wrapping_sub_u64 c = record { fits = halves_fit _ _ (omega arith) c.reciprocal_root-reciprocal.ensures }
 
-wrapping_sub_u64_requires : tie.Need-wrapping-sub-u64-requires
+wrapping_sub_u64_requires : tie.Need-wrapping_sub_u64-high-requires
 wrapping_sub_u64_requires c κs = search rules
 
-mul_wrapping_sub_u64_2 : tie.Need-overflow-mul-wrapping-sub-u64-2
+mul_wrapping_sub_u64_2 : tie.Need-overflow_mul-high
 mul_wrapping_sub_u64_2 c = record { fits = halves_fit _ _ (omega arith) (omega arith) }
 
-wrapping_sub_u64_requires_2 : tie.Need-wrapping-sub-u64-requires-2
+wrapping_sub_u64_requires_2 : tie.Need-wrapping_sub_u64-rest-requires
 wrapping_sub_u64_requires_2 c κs = search rules
 
-mul_quotient : tie.Need-overflow-mul-quotient
-mul_quotient c = record { fits = halves_fit _ _ (omega arith) c.before.before.reciprocal-root.ensures }
+mul_quotient : tie.Need-overflow_mul-quotient
+mul_quotient c = record { fits = halves_fit _ _ (omega arith) c.before.before.reciprocal_root-reciprocal.ensures }
 
-wrapping_sub_u64_requires_3 : tie.Need-wrapping-sub-u64-requires-3
+wrapping_sub_u64_requires_3 : tie.Need-wrapping_sub_u64-short-requires
 wrapping_sub_u64_requires_3 c κs = search rules
 
 returns : tie.Need-returns

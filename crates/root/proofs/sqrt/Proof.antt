@@ -4,30 +4,30 @@ use Rattle.root.proofs.Operands.{nan_root, zero_root, negative_root, infinite_ro
 use Rattle.root.proofs.sqrt.Statement.{statement}
 use Rattle.root.proofs.sqrt.Tie as tie
 
-returns : tie.Need-returns
-returns c = nan_root c.before.args.x c.if1.true
+returns : tie.Need-returns-then-x
+returns c = nan_root c.before.args.x c.if-x.true
 
-returns_2 : tie.Need-returns-2
-returns_2 c = zero_root c.before.before.args.x c.if2.true
+returns_2 : tie.Need-returns-then-x-2
+returns_2 c = zero_root c.before.before.args.x c.if-x-2.true
 
-returns_3 : tie.Need-returns-3
-returns_3 c = negative_root c.before.before.before.args.x c.if3.true
+returns_3 : tie.Need-returns-then-x-3
+returns_3 c = negative_root c.before.before.before.args.x c.if-x-3.true
 
-is_finite_requires : tie.Need-is-finite-requires
+is_finite_requires : tie.Need-is_finite-requires
 is_finite_requires c κs = search rules
 
-root_of_positive_requires : tie.Need-root-of-positive-requires
+root_of_positive_requires : tie.Need-root_of_positive-requires
 root_of_positive_requires c κs =
     let a = c.before.before in
-    above_zero a.before.before.before.args.x a.before.if2.false a.if3.false (sym c.before.is_finite.ensures ∙ c.if4.true)
+    above_zero a.before.before.before.args.x a.before.if-x-2.false a.if-x-3.false (sym c.before.is_finite.ensures ∙ c.if-is_finite.true)
 
-returns_4 : tie.Need-returns-4
+returns_4 : tie.Need-returns-then-is_finite
 returns_4 c = search rules
 
-returns_5 : tie.Need-returns-5
+returns_5 : tie.Need-returns-else-is_finite
 returns_5 c =
     let a = c.before.before in
-    infinite_root a.before.before.before.args.x a.before.before.if1.false a.if3.false (sym c.before.is_finite.ensures ∙ c.if4.false)
+    infinite_root a.before.before.before.args.x a.before.before.if-x.false a.if-x-3.false (sym c.before.is_finite.ensures ∙ c.if-is_finite.false)
 
 pub sqrt_spec : {M : Type 1} → statement M
 sqrt_spec =

@@ -15,32 +15,32 @@ top c = significand_top 53 c.args.significand (lit≤ tt) c.requires.0 c.require
 many : (c : tie.Start) → 11 ≤ count_leading_zeros 64 c.args.significand
 many c = zeros_ge 53 c.args.significand (lit≤ tt) c.requires.0 c.requires.1.0
 
-add_t6 : tie.Need-overflow-add-t6
+add_t6 : tie.Need-overflow_add-result
 add_t6 c = search rules
 
-returns : tie.Need-returns
+returns : tie.Need-returns-then-significand-ge4503599627370496
 returns c =
     let s = c.before in
     let a = s.args in (
       normal_value a.significand a.exponent s.requires.1.0,
-      normal_top a.significand c.if1.true s.requires.1.0,
+      normal_top a.significand c.if-significand-ge4503599627370496.true s.requires.1.0,
       normal_multiple a.significand,
       omega (arith, s.requires.1.1),
     )
 
-cast_zeros : tie.Need-overflow-cast-zeros
+cast_zeros : tie.Need-overflow_cast-zeros
 cast_zeros c = let k = (top c.before).short in omega arith
 
-shl_t8 : tie.Need-overflow-shl-t8
+shl_t8 : tie.Need-overflow_shl-result-2
 shl_t8 c = (top c.before).short
 
-add_t9 : tie.Need-overflow-add-t9
+add_t9 : tie.Need-overflow_add-result-2
 add_t9 c = search rules
 
-sub_t10 : tie.Need-overflow-sub-t10
+sub_t10 : tie.Need-overflow_sub-result
 sub_t10 c = let k = (top c.before).short in omega arith
 
-returns_2 : tie.Need-returns-2
+returns_2 : tie.Need-returns
 returns_2 c =
     let s = c.before in
     let a = s.args in (

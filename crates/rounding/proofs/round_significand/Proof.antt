@@ -6,13 +6,13 @@ use Rattle.rounding.proofs.Nearest.{closest_by_addition}
 use Rattle.rounding.proofs.round_significand.Statement.{statement}
 use Rattle.rounding.proofs.round_significand.Tie as tie
 
-add_result : tie.Need-overflow-add-result
+add_result : tie.Need-overflow_add-result
 add_result c = search rules
 
-add_result_2 : tie.Need-overflow-add-result-2
+add_result_2 : tie.Need-overflow_add-result-2
 add_result_2 c = search rules
 
-add_result_3 : tie.Need-overflow-add-result-3
+add_result_3 : tie.Need-overflow_add-result-3
 add_result_3 c = search rules
 
 returns : tie.Need-returns

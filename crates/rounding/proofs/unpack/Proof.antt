@@ -10,25 +10,25 @@ use Rattle.rounding.proofs.unpack.Tie as tie
 
 -- the format holds the parameter
 held : (c : tie.Start) → T (fits binary64 c.args.x)
-held c = subst T (sym c.well-formed.0.1) tt
+held c = subst T (sym c.well_formed.0.1) tt
 
-float_to_bits_bits : tie.Need-float-to-bits-bits
+float_to_bits_bits : tie.Need-float_to_bits-bits
 float_to_bits_bits c = finite_not_nan c.args.x c.requires
 
-add_t9 : tie.Need-overflow-add-t9
+add_t9 : tie.Need-overflow_add-result
 add_t9 c = search rules
 
-sub_t10 : tie.Need-overflow-sub-t10
+sub_t10 : tie.Need-overflow_sub-result
 sub_t10 c = search rules
 
-returns : tie.Need-returns
+returns : tie.Need-returns-then-field-eq0
 returns c =
-    let r = unpacked_subnormal binary64 c.before.args.x (held c.before) c.before.requires c.if1.true in
+    let r = unpacked_subnormal binary64 c.before.args.x (held c.before) c.before.requires c.if-field-eq0.true in
     (r.value, r.significand, r.exponent)
 
-returns_2 : tie.Need-returns-2
+returns_2 : tie.Need-returns-else-field-eq0
 returns_2 c =
-    let r = unpacked_normal binary64 c.before.args.x (held c.before) c.before.requires c.if1.false in
+    let r = unpacked_normal binary64 c.before.args.x (held c.before) c.before.requires c.if-field-eq0.false in
     (r.value, r.significand, r.exponent)
 
 pub unpack_spec : {M : Type 1} → statement M
