@@ -1,3 +1,2 @@
 // Laws of tests. No code.
 #![tactic(auto)]
-

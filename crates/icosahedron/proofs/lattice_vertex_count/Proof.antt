@@ -10,13 +10,13 @@ use Rattle.icosahedron.proofs.lattice_vertex_count.Tie as tie
 small : (c : tie.Start) → c.args.n * c.args.n ≤ 6400
 small c = mul-le-mul {n₂ = 80} {m₂ = 80} (omega arith) (omega arith)
 
-mul_result : tie.Need-overflow-mul-result
+mul_result : tie.Need-overflow_mul-result
 mul_result c = record { fits = omega (arith, small c) }
 
-mul_result_2 : tie.Need-overflow-mul-result-2
+mul_result_2 : tie.Need-overflow_mul-result-2
 mul_result_2 c = record { fits = omega (arith, small c) }
 
-add_result : tie.Need-overflow-add-result
+add_result : tie.Need-overflow_add-result
 add_result c = record { fits = omega (arith, small c) }
 
 returns : tie.Need-returns

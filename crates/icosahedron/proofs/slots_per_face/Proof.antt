@@ -7,16 +7,16 @@ use Rattle.icosahedron.specs.Slots.{slots_per_face}
 use Rattle.icosahedron.proofs.slots_per_face.Statement.{statement}
 use Rattle.icosahedron.proofs.slots_per_face.Tie as tie
 
-add_result : tie.Need-overflow-add-result
+add_result : tie.Need-overflow_add-result
 add_result c = search rules
 
-add_result_2 : tie.Need-overflow-add-result-2
+add_result_2 : tie.Need-overflow_add-result-2
 add_result_2 c = search rules
 
 small : (c : tie.Start) → (c.args.n + 1) * (c.args.n + 2) ≤ 6642
 small c = mul-le-mul {n₂ = 81} {m₂ = 82} (omega arith) (omega arith)
 
-mul_result : tie.Need-overflow-mul-result
+mul_result : tie.Need-overflow_mul-result
 mul_result c = record { fits = omega (arith, small c) }
 
 returns : tie.Need-returns

@@ -10,22 +10,22 @@ use Rattle.icosahedron.proofs.tri_index.Tie as tie
 products : (c : tie.Start) → let n = c.args.n in let a = c.args.a in (a * (n + 1) ≤ 6480) × (a * a ≤ a * (n + 1)) × (a ≤ a * a)
 products c = slot_products c.args.n c.args.a c.args.b c.requires.0 c.requires.1
 
-add_result : tie.Need-overflow-add-result
+add_result : tie.Need-overflow_add-result
 add_result c = search rules
 
-mul_result : tie.Need-overflow-mul-result
+mul_result : tie.Need-overflow_mul-result
 mul_result c = record { fits = omega (arith, (products c).0) }
 
-mul_result_2 : tie.Need-overflow-mul-result-2
+mul_result_2 : tie.Need-overflow_mul-result-2
 mul_result_2 c = record { fits = omega (arith, (products c).0, (products c).1) }
 
-sub_result : tie.Need-overflow-sub-result
+sub_result : tie.Need-overflow_sub-result
 sub_result c = (products c).2
 
-sub_result_2 : tie.Need-overflow-sub-result-2
+sub_result_2 : tie.Need-overflow_sub-result-2
 sub_result_2 c = omega (arith, (products c).1)
 
-add_result_2 : tie.Need-overflow-add-result-2
+add_result_2 : tie.Need-overflow_add-result-2
 add_result_2 c = record { fits = omega (arith, (products c).0) }
 
 returns : tie.Need-returns

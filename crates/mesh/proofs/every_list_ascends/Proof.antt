@@ -18,13 +18,13 @@ use Rattle.mesh.proofs.Facts.{AdjacencyFacts, adjacency_facts}
 use Rattle.mesh.proofs.every_list_ascends.Statement.{statement}
 use Rattle.mesh.proofs.every_list_ascends.Tie as tie
 
-abbrev invariant_loop : tie.invariant_loop
+abbrev invariant_loop : tie.invariant-loop-vertex
 invariant_loop positions starts entries count vertex₀ vertex = (vertex ≤ count) × (length starts ≡ suc count) × (all_below (λ v. list_ascends (neighbours (mesh_of positions starts entries) v)) vertex ≡ true)
 
-abbrev decreases_loop : tie.decreases_loop
+abbrev decreases_loop : tie.decreases-loop-vertex
 decreases_loop positions starts entries count vertex₀ vertex = count - vertex
 
-abbrev the_start : tie.At-loop invariant_loop decreases_loop → tie.Start invariant_loop decreases_loop
+abbrev the_start : tie.At-loop-vertex invariant_loop decreases_loop → tie.Start invariant_loop decreases_loop
 the_start l = l.before.before.before.before
 
 abbrev lent : tie.Start invariant_loop decreases_loop → Mesh
@@ -46,77 +46,77 @@ unfolding neighbours part
 is_list m v = sym (slice_as_take (get_or m.starts v 0) (get_or m.starts (v + 1) 0) m.entries) ∙ rw (add-one v)
 
 -- what the test of a list found
-found : (c : tie.After-list-ascends invariant_loop decreases_loop) (b : Bool) → c.list_ascends_lem.result ≡ b → let l = c.before.before.before.before.before in list_ascends (neighbours (lent (the_start l)) l.loop.vertex) ≡ b
+found : (c : tie.After-list_ascends invariant_loop decreases_loop) (b : Bool) → c.list_ascends.result ≡ b → let l = c.before.before.before.before.before in list_ascends (neighbours (lent (the_start l)) l.loop-vertex.vertex) ≡ b
 found c b e =
     let l = c.before.before.before.before.before in
-    sym (c.list_ascends_lem.ensures ∙ ap list_ascends (is_list (lent (the_start l)) l.loop.vertex)) ∙ e
+    sym (c.list_ascends.ensures ∙ ap list_ascends (is_list (lent (the_start l)) l.loop-vertex.vertex)) ∙ e
 
-loop_holds : tie.Need-loop-init invariant_loop decreases_loop
+loop_holds : tie.Need-loop-vertex-init invariant_loop decreases_loop
 unfolding all_below
 loop_holds c = (omega arith, (facts c.before.before.before).rows.size, refl)
 
-mul_start : tie.Need-overflow-mul-start invariant_loop decreases_loop
+mul_start : tie.Need-offset_bounds-starts-vertex invariant_loop decreases_loop
 mul_start c = search rules
 
-shared_slice_read_start : tie.Need-shared-slice-read-start invariant_loop decreases_loop
+shared_slice_read_start : tie.Need-bounds-starts-vertex invariant_loop decreases_loop
 shared_slice_read_start c = search rules
 
-cast_start : tie.Need-overflow-cast-start invariant_loop decreases_loop
-cast_start c = omega (arith, c.shared-slice-known4.given c.before.before.loop.vertex)
+cast_start : tie.Need-overflow_cast-start invariant_loop decreases_loop
+cast_start c = omega (arith, c.shared_slice_known-in-loop-vertex-1.given c.loop-vertex.vertex)
 
-add_end : tie.Need-overflow-add-end invariant_loop decreases_loop
+add_end : tie.Need-overflow_add-end invariant_loop decreases_loop
 add_end c = search rules
 
-mul_end : tie.Need-overflow-mul-end invariant_loop decreases_loop
+mul_end : tie.Need-offset_bounds-starts-vertex-in-loop-vertex invariant_loop decreases_loop
 mul_end c = search rules
 
-shared_slice_read_end : tie.Need-shared-slice-read-end invariant_loop decreases_loop
+shared_slice_read_end : tie.Need-bounds-starts-vertex-in-loop-vertex invariant_loop decreases_loop
 shared_slice_read_end c = search rules
 
-cast_end : tie.Need-overflow-cast-end invariant_loop decreases_loop
-cast_end c = omega (arith, c.shared-slice-known5.given (c.before.before.before.loop.vertex + 1))
+cast_end : tie.Need-overflow_cast-end invariant_loop decreases_loop
+cast_end c = omega (arith, c.shared_slice_known-in-loop-vertex-2-1.given (c.loop-vertex.vertex + 1))
 
-mul_list : tie.Need-overflow-mul-list invariant_loop decreases_loop
-mul_list c = let l = c.before.before.before in omega (arith, inside (the_start l) l.loop.vertex c.before.before.loop-test.true)
+mul_list : tie.Need-offset_bounds-entries-start invariant_loop decreases_loop
+mul_list c = let l = c.before.before.before in omega (arith, inside (the_start l) l.loop-vertex.vertex c.loop-vertex-test.true)
 
-sub_list : tie.Need-overflow-sub-list invariant_loop decreases_loop
-sub_list c = let l = c.before.before.before in omega (arith, inside (the_start l) l.loop.vertex c.before.before.loop-test.true)
+sub_list : tie.Need-slice_bounds-list-count invariant_loop decreases_loop
+sub_list c = let l = c.before.before.before in omega (arith, inside (the_start l) l.loop-vertex.vertex c.loop-vertex-test.true)
 
-part_list_start : tie.Need-slice-bounds-list-start invariant_loop decreases_loop
-part_list_start c = let l = c.before.before.before in omega (arith, inside (the_start l) l.loop.vertex c.before.before.loop-test.true)
+part_list_start : tie.Need-slice_bounds-list-start invariant_loop decreases_loop
+part_list_start c = let l = c.before.before.before in omega (arith, inside (the_start l) l.loop-vertex.vertex c.loop-vertex-test.true)
 
-part_list_end : tie.Need-slice-bounds-list-end invariant_loop decreases_loop
-part_list_end c = let l = c.before.before.before in omega (arith, inside (the_start l) l.loop.vertex c.before.before.loop-test.true)
+part_list_end : tie.Need-slice_bounds-list-end invariant_loop decreases_loop
+part_list_end c = let l = c.before.before.before in omega (arith, inside (the_start l) l.loop-vertex.vertex c.loop-vertex-test.true)
 
-list_ascends_requires : tie.Need-list-ascends-requires invariant_loop decreases_loop
+list_ascends_requires : tie.Need-list_ascends-requires invariant_loop decreases_loop
 list_ascends_requires c κs = search rules
 
-returns : tie.Need-returns invariant_loop decreases_loop
+returns : tie.Need-returns-then-not-list_ascends invariant_loop decreases_loop
 unfolding lists_ascend
 returns c =
     let l = c.before.before.before.before.before.before in
     let s = the_start l in
-    sym (all_below_fails (λ v. list_ascends (neighbours (lent s) v)) (length s.args.positions.now / 3) l.loop.vertex c.before.before.before.before.before.loop-test.true (found c.before false (not-true _ c.if1.true)))
+    sym (all_below_fails (λ v. list_ascends (neighbours (lent s) v)) (length s.args.positions.now / 3) l.loop-vertex.vertex c.loop-vertex-test.true (found c.before false (not-true _ c.if-not-list_ascends.true-raw)))
 
-add_vertex : tie.Need-overflow-add-vertex invariant_loop decreases_loop
+add_vertex : tie.Need-overflow_add-vertex invariant_loop decreases_loop
 add_vertex c = search rules
 
-loop_less : tie.Need-loop-smaller invariant_loop decreases_loop
+loop_less : tie.Need-loop-vertex-smaller invariant_loop decreases_loop
 loop_less c = search rules
 
-loop_again : tie.Need-loop-preserved invariant_loop decreases_loop
+loop_again : tie.Need-loop-vertex-preserved invariant_loop decreases_loop
 loop_again c =
     let l = c.before.before.before.before.before.before in
     let s = the_start l in
-    (omega arith, l.loop.invariant.1, all_below_suc (λ v. list_ascends (neighbours (lent s) v)) l.loop.vertex l.loop.invariant.2 (found c.before true (not-false _ c.if1.false)))
+    (omega arith, l.loop-vertex.invariant.1, all_below_suc (λ v. list_ascends (neighbours (lent s) v)) l.loop-vertex.vertex l.loop-vertex.invariant.2 (found c.before true (not-false _ c.if-not-list_ascends.false-raw)))
 
-returns_2 : tie.Need-returns-2 invariant_loop decreases_loop
+returns_2 : tie.Need-returns invariant_loop decreases_loop
 unfolding lists_ascend
 returns_2 c =
     let l = c.before in
     let s = the_start l in
-    let all : length s.args.positions.now / 3 ≡ l.loop.vertex = omega arith in
-    sym (ap (all_below (λ v. list_ascends (neighbours (lent s) v))) all ∙ l.loop.invariant.2)
+    let all : length s.args.positions.now / 3 ≡ l.loop-vertex.vertex = omega arith in
+    sym (ap (all_below (λ v. list_ascends (neighbours (lent s) v))) all ∙ l.loop-vertex.invariant.2)
 
 pub every_list_ascends_spec : {M : Type 1} → statement M
 every_list_ascends_spec =

@@ -13,60 +13,60 @@ use Rattle.mesh.proofs.Falls.{nowhere_falls, falls_behind, pair_of}
 use Rattle.mesh.proofs.first_fall.Statement.{statement}
 use Rattle.mesh.proofs.first_fall.Tie as tie
 
-abbrev invariant_loop : tie.invariant_loop
+abbrev invariant_loop : tie.invariant-loop-i
 invariant_loop starts i₀ i = (1 ≤ i) × (all_below (not_falling starts) (i - 1) ≡ true)
 
-abbrev decreases_loop : tie.decreases_loop
+abbrev decreases_loop : tie.decreases-loop-i
 decreases_loop starts i₀ i = length starts - i
 
-loop_holds : tie.Need-loop-init invariant_loop decreases_loop
+loop_holds : tie.Need-loop-i-init invariant_loop decreases_loop
 unfolding all_below
 loop_holds c = (omega arith, refl)
 
-mul_if1 : tie.Need-overflow-mul-if1 invariant_loop decreases_loop
+mul_if1 : tie.Need-offset_bounds-starts-i invariant_loop decreases_loop
 mul_if1 c = search rules
 
-shared_slice_read_if1 : tie.Need-shared-slice-read-if1 invariant_loop decreases_loop
+shared_slice_read_if1 : tie.Need-bounds-starts-i invariant_loop decreases_loop
 shared_slice_read_if1 c = search rules
 
-sub_if1 : tie.Need-overflow-sub-if1 invariant_loop decreases_loop
+sub_if1 : tie.Need-overflow_sub-i invariant_loop decreases_loop
 sub_if1 c = search rules
 
-mul_if1_2 : tie.Need-overflow-mul-if1-2 invariant_loop decreases_loop
+mul_if1_2 : tie.Need-offset_bounds-starts-i-in-loop-i invariant_loop decreases_loop
 mul_if1_2 c = search rules
 
-shared_slice_read_if1_2 : tie.Need-shared-slice-read-if1-2 invariant_loop decreases_loop
+shared_slice_read_if1_2 : tie.Need-bounds-starts-i-in-loop-i invariant_loop decreases_loop
 shared_slice_read_if1_2 c = search rules
 
-returns : tie.Need-returns invariant_loop decreases_loop
+returns : tie.Need-returns-then-starts-i invariant_loop decreases_loop
 returns c =
     let l = c.before.before.before.before in
-    let starts = l.before.args.starts.now in
-    let i = l.loop.i in
-    let e = pair_of starts i l.loop.invariant.0 in
-    let t = c.if1.true in
-    (let k : i ≡ suc (i - 1) = omega (arith, l.loop.invariant.0) in k) ∙ sym (falls_behind starts (i - 1) (omega (arith, l.loop.invariant.0)) l.loop.invariant.1 (lt-leb (get_or starts (i - 1) 0) (get_or starts (suc (i - 1)) 0) (omega arith)))
+    let starts = l.args.starts.now in
+    let i = l.loop-i.i in
+    let e = pair_of starts i l.loop-i.invariant.0 in
+    let t = c.if-starts-i.true in
+    (let k : i ≡ suc (i - 1) = omega (arith, l.loop-i.invariant.0) in k) ∙ sym (falls_behind starts (i - 1) (omega (arith, l.loop-i.invariant.0)) l.loop-i.invariant.1 (lt-leb (get_or starts (i - 1) 0) (get_or starts (suc (i - 1)) 0) (omega arith)))
 
-add_i : tie.Need-overflow-add-i invariant_loop decreases_loop
+add_i : tie.Need-overflow_add-i invariant_loop decreases_loop
 add_i c = search rules
 
-loop_less : tie.Need-loop-smaller invariant_loop decreases_loop
+loop_less : tie.Need-loop-i-smaller invariant_loop decreases_loop
 loop_less c = omega arith
 
-loop_again : tie.Need-loop-preserved invariant_loop decreases_loop
+loop_again : tie.Need-loop-i-preserved invariant_loop decreases_loop
 loop_again c =
     let l = c.before.before.before.before in
-    let starts = l.before.args.starts.now in
-    let i = l.loop.i in
-    let e = pair_of starts i l.loop.invariant.0 in
-    let t = c.if1.false in
-    (omega arith, ap (all_below (not_falling starts)) (let k : i + 1 - 1 ≡ i - 1 + 1 = omega (arith, l.loop.invariant.0) in k) ∙ all_below_suc (not_falling starts) (i - 1) l.loop.invariant.1 (le-leb (get_or starts (i - 1) 0) (get_or starts (suc (i - 1)) 0) (omega arith)))
+    let starts = l.args.starts.now in
+    let i = l.loop-i.i in
+    let e = pair_of starts i l.loop-i.invariant.0 in
+    let t = c.if-starts-i.false in
+    (omega arith, ap (all_below (not_falling starts)) (let k : i + 1 - 1 ≡ i - 1 + 1 = omega (arith, l.loop-i.invariant.0) in k) ∙ all_below_suc (not_falling starts) (i - 1) l.loop-i.invariant.1 (le-leb (get_or starts (i - 1) 0) (get_or starts (suc (i - 1)) 0) (omega arith)))
 
-returns_2 : tie.Need-returns-2 invariant_loop decreases_loop
+returns_2 : tie.Need-returns invariant_loop decreases_loop
 returns_2 c =
     let l = c.before in
-    let starts = l.before.args.starts.now in
-    sym (nowhere_falls starts (all_below_intro (not_falling starts) (length starts - 1) (λ v lt. all_below_at (not_falling starts) (l.loop.i - 1) v l.loop.invariant.1 (omega (arith, c.loop-test.false)))))
+    let starts = l.args.starts.now in
+    sym (nowhere_falls starts (all_below_intro (not_falling starts) (length starts - 1) (λ v lt. all_below_at (not_falling starts) (l.loop-i.i - 1) v l.loop-i.invariant.1 (omega (arith, c.loop-i-test.false)))))
 
 pub first_fall_spec : {M : Type 1} → statement M
 first_fall_spec =

@@ -14,62 +14,62 @@ use Rattle.mesh.proofs.Falls.{pair_of}
 use Rattle.mesh.proofs.list_ascends.Statement.{statement}
 use Rattle.mesh.proofs.list_ascends.Tie as tie
 
-abbrev invariant_loop : tie.invariant_loop
+abbrev invariant_loop : tie.invariant-loop-i
 invariant_loop list i₀ i = (1 ≤ i) × (all_below (not_falling list) (i - 1) ≡ true)
 
-abbrev decreases_loop : tie.decreases_loop
+abbrev decreases_loop : tie.decreases-loop-i
 decreases_loop list i₀ i = length list - i
 
-loop_holds : tie.Need-loop-init invariant_loop decreases_loop
+loop_holds : tie.Need-loop-i-init invariant_loop decreases_loop
 unfolding all_below
 loop_holds c = (omega arith, refl)
 
-mul_if1 : tie.Need-overflow-mul-if1 invariant_loop decreases_loop
+mul_if1 : tie.Need-offset_bounds-list-i invariant_loop decreases_loop
 mul_if1 c = search rules
 
-shared_slice_read_if1 : tie.Need-shared-slice-read-if1 invariant_loop decreases_loop
+shared_slice_read_if1 : tie.Need-bounds-list-i invariant_loop decreases_loop
 shared_slice_read_if1 c = search rules
 
-sub_if1 : tie.Need-overflow-sub-if1 invariant_loop decreases_loop
+sub_if1 : tie.Need-overflow_sub-i invariant_loop decreases_loop
 sub_if1 c = search rules
 
-mul_if1_2 : tie.Need-overflow-mul-if1-2 invariant_loop decreases_loop
+mul_if1_2 : tie.Need-offset_bounds-list-i-in-loop-i invariant_loop decreases_loop
 mul_if1_2 c = search rules
 
-shared_slice_read_if1_2 : tie.Need-shared-slice-read-if1-2 invariant_loop decreases_loop
+shared_slice_read_if1_2 : tie.Need-bounds-list-i-in-loop-i invariant_loop decreases_loop
 shared_slice_read_if1_2 c = search rules
 
-returns : tie.Need-returns invariant_loop decreases_loop
+returns : tie.Need-returns-then-list-i invariant_loop decreases_loop
 unfolding list_ascends
 returns c =
     let l = c.before.before.before.before in
-    let list = l.before.args.list.now in
-    let i = l.loop.i in
-    let e = pair_of list i l.loop.invariant.0 in
-    let t = c.if1.true in
-    sym (all_below_fails (not_falling list) (length list - 1) (i - 1) (omega (arith, l.loop.invariant.0)) (lt-leb (get_or list (i - 1) 0) (get_or list (suc (i - 1)) 0) (omega arith)))
+    let list = l.args.list.now in
+    let i = l.loop-i.i in
+    let e = pair_of list i l.loop-i.invariant.0 in
+    let t = c.if-list-i.true in
+    sym (all_below_fails (not_falling list) (length list - 1) (i - 1) (omega (arith, l.loop-i.invariant.0)) (lt-leb (get_or list (i - 1) 0) (get_or list (suc (i - 1)) 0) (omega arith)))
 
-add_i : tie.Need-overflow-add-i invariant_loop decreases_loop
+add_i : tie.Need-overflow_add-i invariant_loop decreases_loop
 add_i c = search rules
 
-loop_less : tie.Need-loop-smaller invariant_loop decreases_loop
+loop_less : tie.Need-loop-i-smaller invariant_loop decreases_loop
 loop_less c = omega arith
 
-loop_again : tie.Need-loop-preserved invariant_loop decreases_loop
+loop_again : tie.Need-loop-i-preserved invariant_loop decreases_loop
 loop_again c =
     let l = c.before.before.before.before in
-    let list = l.before.args.list.now in
-    let i = l.loop.i in
-    let e = pair_of list i l.loop.invariant.0 in
-    let t = c.if1.false in
-    (omega arith, ap (all_below (not_falling list)) (let k : i + 1 - 1 ≡ i - 1 + 1 = omega (arith, l.loop.invariant.0) in k) ∙ all_below_suc (not_falling list) (i - 1) l.loop.invariant.1 (le-leb (get_or list (i - 1) 0) (get_or list (suc (i - 1)) 0) (omega arith)))
+    let list = l.args.list.now in
+    let i = l.loop-i.i in
+    let e = pair_of list i l.loop-i.invariant.0 in
+    let t = c.if-list-i.false in
+    (omega arith, ap (all_below (not_falling list)) (let k : i + 1 - 1 ≡ i - 1 + 1 = omega (arith, l.loop-i.invariant.0) in k) ∙ all_below_suc (not_falling list) (i - 1) l.loop-i.invariant.1 (le-leb (get_or list (i - 1) 0) (get_or list (suc (i - 1)) 0) (omega arith)))
 
-returns_2 : tie.Need-returns-2 invariant_loop decreases_loop
+returns_2 : tie.Need-returns invariant_loop decreases_loop
 unfolding list_ascends
 returns_2 c =
     let l = c.before in
-    let list = l.before.args.list.now in
-    sym (all_below_intro (not_falling list) (length list - 1) (λ v lt. all_below_at (not_falling list) (l.loop.i - 1) v l.loop.invariant.1 (omega (arith, c.loop-test.false))))
+    let list = l.args.list.now in
+    sym (all_below_intro (not_falling list) (length list - 1) (λ v lt. all_below_at (not_falling list) (l.loop-i.i - 1) v l.loop-i.invariant.1 (omega (arith, c.loop-i-test.false))))
 
 pub list_ascends_spec : {M : Type 1} → statement M
 list_ascends_spec =

@@ -18,10 +18,10 @@ use Rattle.mesh.proofs.lists_limited.Tie as tie
 abbrev limited : List ℕ → ℕ → Bool
 limited starts v = leb (get_or starts (suc v) 0 - get_or starts v 0) longest_list
 
-abbrev invariant_loop : tie.invariant_loop
+abbrev invariant_loop : tie.invariant-loop-vertex
 invariant_loop count starts vertex₀ vertex = (vertex ≤ count) × (all_below (limited starts) vertex ≡ true)
 
-abbrev decreases_loop : tie.decreases_loop
+abbrev decreases_loop : tie.decreases-loop-vertex
 decreases_loop count starts vertex₀ vertex = count - vertex
 
 -- the test before this one: the subtraction is defined
@@ -29,52 +29,52 @@ ascend : (c : tie.Start invariant_loop decreases_loop) (v : ℕ) → v < c.args.
 unfolding starts_ascend
 ascend c v lt = rw add-one (leb-true _ _ (all_below_at (λ v. leb (get_or c.args.starts.now v 0) (get_or c.args.starts.now (suc v) 0)) _ v c.requires.1 lt))
 
-loop_holds : tie.Need-loop-init invariant_loop decreases_loop
+loop_holds : tie.Need-loop-vertex-init invariant_loop decreases_loop
 unfolding all_below
 loop_holds c = (omega arith, refl)
 
-add_if1 : tie.Need-overflow-add-if1 invariant_loop decreases_loop
+add_if1 : tie.Need-overflow_add-vertex invariant_loop decreases_loop
 add_if1 c = search rules
 
-mul_if1 : tie.Need-overflow-mul-if1 invariant_loop decreases_loop
+mul_if1 : tie.Need-offset_bounds-starts-vertex invariant_loop decreases_loop
 mul_if1 c = search rules
 
-shared_slice_read_if1 : tie.Need-shared-slice-read-if1 invariant_loop decreases_loop
+shared_slice_read_if1 : tie.Need-bounds-starts-vertex invariant_loop decreases_loop
 shared_slice_read_if1 c = search rules
 
-mul_if1_2 : tie.Need-overflow-mul-if1-2 invariant_loop decreases_loop
+mul_if1_2 : tie.Need-offset_bounds-starts-vertex-in-loop-vertex invariant_loop decreases_loop
 mul_if1_2 c = search rules
 
-shared_slice_read_if1_2 : tie.Need-shared-slice-read-if1-2 invariant_loop decreases_loop
+shared_slice_read_if1_2 : tie.Need-bounds-starts-vertex-in-loop-vertex invariant_loop decreases_loop
 shared_slice_read_if1_2 c = search rules
 
-sub_if1 : tie.Need-overflow-sub-if1 invariant_loop decreases_loop
-sub_if1 c = let l = c.before.before.before in ascend l.before l.loop.vertex (omega arith)
+sub_if1 : tie.Need-overflow_sub-starts invariant_loop decreases_loop
+sub_if1 c = let l = c.before.before.before in ascend l.before l.loop-vertex.vertex (omega arith)
 
-returns : tie.Need-returns invariant_loop decreases_loop
+returns : tie.Need-returns-then-starts-vertex-gt-LONGEST_LIST invariant_loop decreases_loop
 unfolding lists_limited
 returns c =
     let l = c.before.before.before.before in
-    let starts = l.before.args.starts.now in
-    sym (all_below_fails (limited starts) l.before.args.count l.loop.vertex (omega arith) (lt-leb _ _ (rw add-one at c.if1.true)))
+    let starts = l.args.starts.now in
+    sym (all_below_fails (limited starts) l.args.count l.loop-vertex.vertex (omega arith) (lt-leb _ _ (rw add-one at c.if-starts-vertex-gt-LONGEST_LIST.true)))
 
-add_vertex : tie.Need-overflow-add-vertex invariant_loop decreases_loop
+add_vertex : tie.Need-overflow_add-vertex-in-loop-vertex invariant_loop decreases_loop
 add_vertex c = search rules
 
-loop_less : tie.Need-loop-smaller invariant_loop decreases_loop
+loop_less : tie.Need-loop-vertex-smaller invariant_loop decreases_loop
 loop_less c = search rules
 
-loop_again : tie.Need-loop-preserved invariant_loop decreases_loop
+loop_again : tie.Need-loop-vertex-preserved invariant_loop decreases_loop
 loop_again c =
     let l = c.before.before.before.before in
-    (omega arith, all_below_suc (limited l.before.args.starts.now) l.loop.vertex l.loop.invariant.1 (le-leb _ _ (rw add-one at c.if1.false)))
+    (omega arith, all_below_suc (limited l.args.starts.now) l.loop-vertex.vertex l.loop-vertex.invariant.1 (le-leb _ _ (rw add-one at c.if-starts-vertex-gt-LONGEST_LIST.false)))
 
-returns_2 : tie.Need-returns-2 invariant_loop decreases_loop
+returns_2 : tie.Need-returns invariant_loop decreases_loop
 unfolding lists_limited
 returns_2 c =
     let l = c.before in
-    let all : l.before.args.count ≡ l.loop.vertex = omega arith in
-    sym (ap (all_below (limited l.before.args.starts.now)) all ∙ l.loop.invariant.1)
+    let all : l.args.count ≡ l.loop-vertex.vertex = omega arith in
+    sym (ap (all_below (limited l.args.starts.now)) all ∙ l.loop-vertex.invariant.1)
 
 pub lists_limited_spec : {M : Type 1} → statement M
 lists_limited_spec =

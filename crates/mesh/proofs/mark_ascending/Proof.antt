@@ -5,25 +5,25 @@ use Rattle.mesh.specs.Mark.{mark_ascending}
 use Rattle.mesh.proofs.mark_ascending.Statement.{statement}
 use Rattle.mesh.proofs.mark_ascending.Tie as tie
 
-check_adjacency_requires : tie.Need-check-adjacency-requires
+check_adjacency_requires : tie.Need-check_adjacency-adjacency-requires
 check_adjacency_requires c κs = search rules
 
-enum_known_adjacency : tie.Need-enum-known-adjacency
+enum_known_adjacency : tie.Need-enum_known-adjacency
 enum_known_adjacency c = search rules
 
-enum_told : tie.Need-enum-told
+enum_told : tie.Need-enum_told-1
 enum_told c = search rules
 
-every_list_ascends_requires : tie.Need-every-list-ascends-requires
-every_list_ascends_requires c κs = sym c.before.before.check-adjacency.ensures ∙ c.enum_told.given.1
+every_list_ascends_requires : tie.Need-every_list_ascends-requires
+every_list_ascends_requires c κs = sym c.check_adjacency-adjacency.ensures ∙ c.in-Passed.is
 
-returns : tie.Need-returns
+returns : tie.Need-returns-in-Refused
 unfolding mark_ascending
-returns c = rw (sym c.before.before.before.check-adjacency.ensures ∙ c.before.adjacency.given.1)
+returns c = rw (sym c.check_adjacency-adjacency.ensures ∙ c.in-Refused.is)
 
-returns_2 : tie.Need-returns-2
+returns_2 : tie.Need-returns-in-Passed
 unfolding mark_ascending
-returns_2 c = rw (sym c.before.before.before.check-adjacency.ensures ∙ c.before.enum_told.given.1, c.every-list-ascends.ensures)
+returns_2 c = rw (sym c.check_adjacency-adjacency.ensures ∙ c.in-Passed.is, c.every_list_ascends.ensures)
 
 pub mark_ascending_spec : {M : Type 1} → statement M
 mark_ascending_spec =

@@ -4,37 +4,37 @@ use Rattle.mesh.specs.Mesh.{position_of}
 use Rattle.mesh.proofs.position.Statement.{statement}
 use Rattle.mesh.proofs.position.Tie as tie
 
-mul_new : tie.Need-overflow-mul-new
+mul_new : tie.Need-overflow_mul-vertex
 mul_new c = search rules
 
-mul_new_2 : tie.Need-overflow-mul-new-2
+mul_new_2 : tie.Need-offset_bounds-positions-vertex
 mul_new_2 c = search rules
 
-shared_slice_read_new : tie.Need-shared-slice-read-new
+shared_slice_read_new : tie.Need-bounds-positions-vertex
 shared_slice_read_new c = search rules
 
-mul_new_3 : tie.Need-overflow-mul-new-3
+mul_new_3 : tie.Need-overflow_mul-vertex-2
 mul_new_3 c = search rules
 
-add_new : tie.Need-overflow-add-new
+add_new : tie.Need-overflow_add-vertex
 add_new c = search rules
 
-mul_new_4 : tie.Need-overflow-mul-new-4
+mul_new_4 : tie.Need-offset_bounds-positions-vertex-2
 mul_new_4 c = search rules
 
-shared_slice_read_new_2 : tie.Need-shared-slice-read-new-2
+shared_slice_read_new_2 : tie.Need-bounds-positions-vertex-2
 shared_slice_read_new_2 c = search rules
 
-mul_new_5 : tie.Need-overflow-mul-new-5
+mul_new_5 : tie.Need-overflow_mul-vertex-3
 mul_new_5 c = search rules
 
-add_new_2 : tie.Need-overflow-add-new-2
+add_new_2 : tie.Need-overflow_add-vertex-2
 add_new_2 c = search rules
 
-mul_new_6 : tie.Need-overflow-mul-new-6
+mul_new_6 : tie.Need-offset_bounds-positions-vertex-3
 mul_new_6 c = search rules
 
-shared_slice_read_new_3 : tie.Need-shared-slice-read-new-3
+shared_slice_read_new_3 : tie.Need-bounds-positions-vertex-3
 shared_slice_read_new_3 c = search rules
 
 new_requires : tie.Need-new-requires

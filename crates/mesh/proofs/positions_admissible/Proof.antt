@@ -19,47 +19,47 @@ use Rattle.mesh.proofs.positions_admissible.Tie as tie
 abbrev admitted : List Float → ℕ → Bool
 admitted positions v = admissible (position_of positions v)
 
-abbrev invariant_loop : tie.invariant_loop
+abbrev invariant_loop : tie.invariant-loop-vertex
 invariant_loop positions count vertex₀ vertex = (vertex ≤ count) × (all_below (admitted positions) vertex ≡ true)
 
-abbrev decreases_loop : tie.decreases_loop
+abbrev decreases_loop : tie.decreases-loop-vertex
 decreases_loop positions count vertex₀ vertex = count - vertex
 
-loop_holds : tie.Need-loop-init invariant_loop decreases_loop
+loop_holds : tie.Need-loop-vertex-init invariant_loop decreases_loop
 unfolding all_below
 loop_holds c = (omega arith, refl)
 
-position_requires : tie.Need-position-requires invariant_loop decreases_loop
+position_requires : tie.Need-position-here-requires invariant_loop decreases_loop
 position_requires c κs = search rules
 
-is_admissible_requires : tie.Need-is-admissible-requires invariant_loop decreases_loop
+is_admissible_requires : tie.Need-is_admissible-requires invariant_loop decreases_loop
 is_admissible_requires c κs = search rules
 
-returns : tie.Need-returns invariant_loop decreases_loop
+returns : tie.Need-returns-then-not-is_admissible invariant_loop decreases_loop
 unfolding positions_admissible
 returns c =
     let l = c.before.before.before.before in
-    let positions = l.before.before.args.positions.now in
-    sym (all_below_fails (admitted positions) (length positions / 3) l.loop.vertex (omega arith) (ap admissible (sym c.before.before.position.ensures) ∙ sym c.before.is-admissible.ensures ∙ not-true _ c.if1.true))
+    let positions = l.args.positions.now in
+    sym (all_below_fails (admitted positions) (length positions / 3) l.loop-vertex.vertex (omega arith) (ap admissible (sym c.position-here.ensures) ∙ sym c.is_admissible.ensures ∙ not-true _ c.if-not-is_admissible.true-raw))
 
-add_vertex : tie.Need-overflow-add-vertex invariant_loop decreases_loop
+add_vertex : tie.Need-overflow_add-vertex invariant_loop decreases_loop
 add_vertex c = search rules
 
-loop_less : tie.Need-loop-smaller invariant_loop decreases_loop
+loop_less : tie.Need-loop-vertex-smaller invariant_loop decreases_loop
 loop_less c = search rules
 
-loop_again : tie.Need-loop-preserved invariant_loop decreases_loop
+loop_again : tie.Need-loop-vertex-preserved invariant_loop decreases_loop
 loop_again c =
     let l = c.before.before.before.before in
-    (omega arith, all_below_suc (admitted l.before.before.args.positions.now) l.loop.vertex l.loop.invariant.1 (ap admissible (sym c.before.before.position.ensures) ∙ sym c.before.is-admissible.ensures ∙ not-false _ c.if1.false))
+    (omega arith, all_below_suc (admitted l.args.positions.now) l.loop-vertex.vertex l.loop-vertex.invariant.1 (ap admissible (sym c.position-here.ensures) ∙ sym c.is_admissible.ensures ∙ not-false _ c.if-not-is_admissible.false-raw))
 
-returns_2 : tie.Need-returns-2 invariant_loop decreases_loop
+returns_2 : tie.Need-returns invariant_loop decreases_loop
 unfolding positions_admissible
 returns_2 c =
     let l = c.before in
-    let positions = l.before.before.args.positions.now in
-    let all : length positions / 3 ≡ l.loop.vertex = omega arith in
-    sym (ap (all_below (admitted positions)) all ∙ l.loop.invariant.1)
+    let positions = l.args.positions.now in
+    let all : length positions / 3 ≡ l.loop-vertex.vertex = omega arith in
+    sym (ap (all_below (admitted positions)) all ∙ l.loop-vertex.invariant.1)
 
 pub positions_admissible_spec : {M : Type 1} → statement M
 positions_admissible_spec =

@@ -5,7 +5,7 @@ use Rattle.mesh.specs.Rows.{starts_counted}
 use Rattle.mesh.proofs.starts_counted.Statement.{statement}
 use Rattle.mesh.proofs.starts_counted.Tie as tie
 
-add_result : tie.Need-overflow-add-result
+add_result : tie.Need-overflow_add-result
 add_result c = search rules
 
 returns : tie.Need-returns

@@ -6,17 +6,17 @@ use Rattle.mesh.specs.Rows.{starts_span}
 use Rattle.mesh.proofs.starts_span.Statement.{statement}
 use Rattle.mesh.proofs.starts_span.Tie as tie
 
-shared_slice_read_result : tie.Need-shared-slice-read-result
+shared_slice_read_result : tie.Need-bounds-starts-0
 shared_slice_read_result c = search rules
 
-mul_result : tie.Need-overflow-mul-result
+mul_result : tie.Need-offset_bounds-starts-count
 mul_result c = search rules
 
-shared_slice_read_result_2 : tie.Need-shared-slice-read-result-2
+shared_slice_read_result_2 : tie.Need-bounds-starts-count
 shared_slice_read_result_2 c = search rules
 
-cast_result : tie.Need-overflow-cast-result
-cast_result c = omega (arith, c.shared-slice-known2.given c.before.before.args.count)
+cast_result : tie.Need-overflow_cast-result
+cast_result c = omega (arith, c.shared_slice_known-2-1.given c.args.count)
 
 returns : tie.Need-returns
 unfolding starts_span

@@ -12,48 +12,48 @@ use Rattle.records.specs.Lists.{holds_number, all_numbers}
 use Rattle.records.proofs.all_u32s.Statement.{statement}
 use Rattle.records.proofs.all_u32s.Tie as tie
 
-abbrev invariant_loop : tie.invariant_loop
+abbrev invariant_loop : tie.invariant-loop-i
 invariant_loop list value i₀ i = (i ≤ length list) × (all_below (holds_number value list) i ≡ true)
 
-abbrev decreases_loop : tie.decreases_loop
+abbrev decreases_loop : tie.decreases-loop-i
 decreases_loop list value i₀ i = length list - i
 
-loop_holds : tie.Need-loop-init invariant_loop decreases_loop
+loop_holds : tie.Need-loop-i-init invariant_loop decreases_loop
 unfolding all_below
 loop_holds c = (omega arith, refl)
 
-mul_if1 : tie.Need-overflow-mul-if1 invariant_loop decreases_loop
+mul_if1 : tie.Need-offset_bounds-list-i invariant_loop decreases_loop
 mul_if1 c = search rules
 
-shared_slice_read_if1 : tie.Need-shared-slice-read-if1 invariant_loop decreases_loop
+shared_slice_read_if1 : tie.Need-bounds-list-i invariant_loop decreases_loop
 shared_slice_read_if1 c = search rules
 
-returns : tie.Need-returns invariant_loop decreases_loop
+returns : tie.Need-returns-then-list-i invariant_loop decreases_loop
 unfolding all_numbers
 returns c =
     let l = c.before.before.before in
-    let a = l.before.args in
-    sym (all_below_fails (holds_number a.value a.list.now) (length a.list.now) l.loop.i (omega arith) (ne_eqb _ _ c.if1.true))
+    let a = l.args in
+    sym (all_below_fails (holds_number a.value a.list.now) (length a.list.now) l.loop-i.i (omega arith) (ne_eqb _ _ c.if-list-i.true))
 
-add_i : tie.Need-overflow-add-i invariant_loop decreases_loop
+add_i : tie.Need-overflow_add-i invariant_loop decreases_loop
 add_i c = search rules
 
-loop_less : tie.Need-loop-smaller invariant_loop decreases_loop
+loop_less : tie.Need-loop-i-smaller invariant_loop decreases_loop
 loop_less c = search rules
 
-loop_again : tie.Need-loop-preserved invariant_loop decreases_loop
+loop_again : tie.Need-loop-i-preserved invariant_loop decreases_loop
 loop_again c =
     let l = c.before.before.before in
-    let a = l.before.args in
-    (omega arith, all_below_suc (holds_number a.value a.list.now) l.loop.i l.loop.invariant.1 (eq-eqb _ _ c.if1.false))
+    let a = l.args in
+    (omega arith, all_below_suc (holds_number a.value a.list.now) l.loop-i.i l.loop-i.invariant.1 (eq-eqb _ _ c.if-list-i.false))
 
-returns_2 : tie.Need-returns-2 invariant_loop decreases_loop
+returns_2 : tie.Need-returns invariant_loop decreases_loop
 unfolding all_numbers
 returns_2 c =
     let l = c.before in
-    let a = l.before.args in
-    let all : length a.list.now ≡ l.loop.i = omega arith in
-    sym (ap (all_below (holds_number a.value a.list.now)) all ∙ l.loop.invariant.1)
+    let a = l.args in
+    let all : length a.list.now ≡ l.loop-i.i = omega arith in
+    sym (ap (all_below (holds_number a.value a.list.now)) all ∙ l.loop-i.invariant.1)
 
 pub all_u32s_spec : {M : Type 1} → statement M
 all_u32s_spec =

@@ -20,14 +20,14 @@ zero_over_zero = refl
 reads_nan : (bits : ℕ) → 2047 * 2 ^ 52 < bits % 2 ^ 63 → of_bits binary64 bits ≡ nan
 reads_nan bits h = only_nan (of_bits binary64 bits) (sym (nan_bits_is binary64 bits) ∙ nan_bits_above binary64 bits ∙ lt-ltb _ _ h)
 
-returns : tie.Need-returns
-returns c = zero_over_zero ∙ sym (reads_nan c.before.args.bits c.if1.true)
+returns : tie.Need-returns-then-bits-gt9218868437227405312
+returns c = zero_over_zero ∙ sym (reads_nan c.args.bits c.if-bits-gt9218868437227405312.true)
 
-float_from_bits_result : tie.Need-float-from-bits-result
+float_from_bits_result : tie.Need-float_from_bits-result
 float_from_bits_result c =
-    subst (λ (b : Bool). T (not b)) (sym (nan_bits_above binary64 c.before.args.bits)) (le→nltb (2047 * 2 ^ 52) (c.before.args.bits % 2 ^ 63) c.if1.false)
+    subst (λ (b : Bool). T (not b)) (sym (nan_bits_above binary64 c.args.bits)) (le→nltb (2047 * 2 ^ 52) (c.args.bits % 2 ^ 63) c.if-bits-gt9218868437227405312.false)
 
-returns_2 : tie.Need-returns-2
+returns_2 : tie.Need-returns
 returns_2 c = search rules
 
 pub double_spec : {M : Type 1} → statement M

@@ -12,40 +12,40 @@ use Rattle.records.proofs.Lists.{each_next, each_all}
 use Rattle.records.proofs.expect_each_f64.Statement.{statement}
 use Rattle.records.proofs.expect_each_f64.Tie as tie
 
-abbrev invariant_loop : tie.invariant_loop
+abbrev invariant_loop : tie.invariant-loop-i
 invariant_loop text list at₀ good₀ i₀ at good i = expected_each text (cursor_at at good) (drop i (map pattern list)) ≡ expected_each text (cursor_at at₀ good₀) (map pattern list)
 
-abbrev decreases_loop : tie.decreases_loop
+abbrev decreases_loop : tie.decreases-loop-i
 decreases_loop text list at₀ good₀ i₀ at good i = length list - i
 
-loop_holds : tie.Need-loop-init invariant_loop decreases_loop
+loop_holds : tie.Need-loop-i-init invariant_loop decreases_loop
 loop_holds c = refl
 
-mul_expect_f64 : tie.Need-overflow-mul-expect-f64 invariant_loop decreases_loop
+mul_expect_f64 : tie.Need-offset_bounds-list-i invariant_loop decreases_loop
 mul_expect_f64 c = search rules
 
-shared_slice_read_expect_f64 : tie.Need-shared-slice-read-expect-f64 invariant_loop decreases_loop
+shared_slice_read_expect_f64 : tie.Need-bounds-list-i invariant_loop decreases_loop
 shared_slice_read_expect_f64 c = search rules
 
-expect_f64_requires : tie.Need-expect-f64-requires invariant_loop decreases_loop
+expect_f64_requires : tie.Need-expect_f64-next-requires invariant_loop decreases_loop
 expect_f64_requires c κs = search rules
 
-add_i : tie.Need-overflow-add-i invariant_loop decreases_loop
+add_i : tie.Need-overflow_add-i invariant_loop decreases_loop
 add_i c = search rules
 
-loop_less : tie.Need-loop-smaller invariant_loop decreases_loop
+loop_less : tie.Need-loop-i-smaller invariant_loop decreases_loop
 loop_less c = search rules
 
-loop_again : tie.Need-loop-preserved invariant_loop decreases_loop
+loop_again : tie.Need-loop-i-preserved invariant_loop decreases_loop
 loop_again c =
     let l = c.before.before.before in
-    let a = l.before.before.before.args in
-    each_next _ _ (map pattern a.list.now) l.loop.i (simp length-map c.before.before.loop-test.true) (sym (get_d_map pattern a.list.now l.loop.i nan 0 c.before.before.loop-test.true)) c.expect-f64.ensures ∙ l.loop.invariant
+    let a = l.args in
+    each_next _ _ (map pattern a.list.now) l.loop-i.i (simp length-map c.loop-i-test.true) (sym (get_d_map pattern a.list.now l.loop-i.i nan 0 c.loop-i-test.true)) c.expect_f64-next.ensures ∙ l.loop-i.invariant
 
 returns : tie.Need-returns invariant_loop decreases_loop
 returns c =
     let l = c.before in
-    sym (each_all _ _ (map pattern l.before.before.before.args.list.now) l.loop.i (simp length-map c.loop-test.false)) ∙ l.loop.invariant
+    sym (each_all _ _ (map pattern l.args.list.now) l.loop-i.i (simp length-map c.loop-i-test.false)) ∙ l.loop-i.invariant
 
 pub expect_each_f64_spec : {M : Type 1} → statement M
 expect_each_f64_spec =

@@ -9,40 +9,40 @@ use Rattle.records.proofs.Lists.{each_next, each_all}
 use Rattle.records.proofs.expect_each_u16.Statement.{statement}
 use Rattle.records.proofs.expect_each_u16.Tie as tie
 
-abbrev invariant_loop : tie.invariant_loop
+abbrev invariant_loop : tie.invariant-loop-i
 invariant_loop text list at₀ good₀ i₀ at good i = expected_each text (cursor_at at good) (drop i list) ≡ expected_each text (cursor_at at₀ good₀) list
 
-abbrev decreases_loop : tie.decreases_loop
+abbrev decreases_loop : tie.decreases-loop-i
 decreases_loop text list at₀ good₀ i₀ at good i = length list - i
 
-loop_holds : tie.Need-loop-init invariant_loop decreases_loop
+loop_holds : tie.Need-loop-i-init invariant_loop decreases_loop
 loop_holds c = refl
 
-mul_widen_u16 : tie.Need-overflow-mul-widen-u16 invariant_loop decreases_loop
+mul_widen_u16 : tie.Need-offset_bounds-list-i invariant_loop decreases_loop
 mul_widen_u16 c = search rules
 
-shared_slice_read_widen_u16 : tie.Need-shared-slice-read-widen-u16 invariant_loop decreases_loop
+shared_slice_read_widen_u16 : tie.Need-bounds-list-i invariant_loop decreases_loop
 shared_slice_read_widen_u16 c = search rules
 
-widen_u16_requires : tie.Need-widen-u16-requires invariant_loop decreases_loop
+widen_u16_requires : tie.Need-widen_u16-requires invariant_loop decreases_loop
 widen_u16_requires c κs = search rules
 
-expect_requires : tie.Need-expect-requires invariant_loop decreases_loop
+expect_requires : tie.Need-expect-next-requires invariant_loop decreases_loop
 expect_requires c κs = search rules
 
-add_i : tie.Need-overflow-add-i invariant_loop decreases_loop
+add_i : tie.Need-overflow_add-i invariant_loop decreases_loop
 add_i c = search rules
 
-loop_less : tie.Need-loop-smaller invariant_loop decreases_loop
+loop_less : tie.Need-loop-i-smaller invariant_loop decreases_loop
 loop_less c = search rules
 
-loop_again : tie.Need-loop-preserved invariant_loop decreases_loop
+loop_again : tie.Need-loop-i-preserved invariant_loop decreases_loop
 loop_again c =
     let l = c.before.before.before.before in
-    each_next _ _ _ _ c.before.before.before.loop-test.true c.before.widen-u16.ensures c.expect.ensures ∙ l.loop.invariant
+    each_next _ _ _ _ c.loop-i-test.true c.widen_u16.ensures c.expect-next.ensures ∙ l.loop-i.invariant
 
 returns : tie.Need-returns invariant_loop decreases_loop
-returns c = sym (each_all _ _ _ _ c.loop-test.false) ∙ c.before.loop.invariant
+returns c = sym (each_all _ _ _ _ c.loop-i-test.false) ∙ c.loop-i.invariant
 
 pub expect_each_u16_spec : {M : Type 1} → statement M
 expect_each_u16_spec =

@@ -12,7 +12,7 @@ expect_requires : tie.Need-expect-requires
 expect_requires c κs = search rules
 
 returns : tie.Need-returns
-returns c = let a = c.before.before.before.args in c.expect.ensures ∙ ap (expected a.text.now a.cursor) c.before.bits.ensures
+returns c = let a = c.args in c.expect.ensures ∙ ap (expected a.text.now a.cursor) c.bits.ensures
 
 pub expect_f64_spec : {M : Type 1} → statement M
 expect_f64_spec = tie.close (tie.spec bits_requires expect_requires returns)

@@ -6,25 +6,25 @@ use Rattle.records.specs.Lists.{expected_list}
 use Rattle.records.proofs.expect_f64s.Statement.{statement}
 use Rattle.records.proofs.expect_f64s.Tie as tie
 
-hash_f64s_requires : tie.Need-hash-f64s-requires
+hash_f64s_requires : tie.Need-hash_f64s-requires
 hash_f64s_requires c κs = search rules
 
 expect_requires : tie.Need-expect-requires
 expect_requires c κs = search rules
 
-returns : tie.Need-returns
+returns : tie.Need-returns-then-hashed
 unfolding expected_list
 returns c =
     let k = c.before.before in
-    let a = k.before.before.before.args in
-    c.expect.ensures ∙ ap (expected a.text.now a.cursor) c.before.hash-f64s.ensures ∙ sym (rw k.if1.true)
+    let a = k.args in
+    c.expect.ensures ∙ ap (expected a.text.now a.cursor) c.hash_f64s.ensures ∙ sym (rw k.if-hashed.true)
 
-expect_each_f64_requires : tie.Need-expect-each-f64-requires
+expect_each_f64_requires : tie.Need-expect_each_f64-requires
 expect_each_f64_requires c κs = search rules
 
-returns_2 : tie.Need-returns-2
+returns_2 : tie.Need-returns
 unfolding expected_list
-returns_2 c = c.expect-each-f64.ensures ∙ sym (rw c.before.if1.false)
+returns_2 c = c.expect_each_f64.ensures ∙ sym (rw c.if-hashed.false)
 
 pub expect_f64s_spec : {M : Type 1} → statement M
 expect_f64s_spec =

@@ -6,25 +6,25 @@ use Rattle.records.specs.Lists.{expected_list}
 use Rattle.records.proofs.expect_u16s.Statement.{statement}
 use Rattle.records.proofs.expect_u16s.Tie as tie
 
-hash_u16s_requires : tie.Need-hash-u16s-requires
+hash_u16s_requires : tie.Need-hash_u16s-requires
 hash_u16s_requires c κs = search rules
 
 expect_requires : tie.Need-expect-requires
 expect_requires c κs = search rules
 
-returns : tie.Need-returns
+returns : tie.Need-returns-then-hashed
 unfolding expected_list
 returns c =
     let k = c.before.before in
-    let a = k.before.before.before.args in
-    c.expect.ensures ∙ ap (expected a.text.now a.cursor) c.before.hash-u16s.ensures ∙ sym (rw k.if1.true)
+    let a = k.args in
+    c.expect.ensures ∙ ap (expected a.text.now a.cursor) c.hash_u16s.ensures ∙ sym (rw k.if-hashed.true)
 
-expect_each_u16_requires : tie.Need-expect-each-u16-requires
+expect_each_u16_requires : tie.Need-expect_each_u16-requires
 expect_each_u16_requires c κs = search rules
 
-returns_2 : tie.Need-returns-2
+returns_2 : tie.Need-returns
 unfolding expected_list
-returns_2 c = c.expect-each-u16.ensures ∙ sym (rw c.before.if1.false)
+returns_2 c = c.expect_each_u16.ensures ∙ sym (rw c.if-hashed.false)
 
 pub expect_u16s_spec : {M : Type 1} → statement M
 expect_u16s_spec =

@@ -7,31 +7,31 @@ use Rattle.records.proofs.Words.{nan_cut}
 use Rattle.records.proofs.spells_nan.Statement.{statement}
 use Rattle.records.proofs.spells_nan.Tie as tie
 
-returns : tie.Need-returns
-returns c = sym (nan_cut c.before.args.text.now c.before.args.start (omega arith))
+returns : tie.Need-returns-then-start-text
+returns c = sym (nan_cut c.args.text.now c.args.start (omega arith))
 
-sub_if2 : tie.Need-overflow-sub-if2
+sub_if2 : tie.Need-overflow_sub-text
 sub_if2 c = search rules
 
-returns_2 : tie.Need-returns-2
-returns_2 c = sym (nan_cut c.before.before.args.text.now c.before.before.args.start (omega arith))
+returns_2 : tie.Need-returns-then-text-start-lt3
+returns_2 c = sym (nan_cut c.args.text.now c.args.start (omega arith))
 
-shared_slice_read_result : tie.Need-shared-slice-read-result
+shared_slice_read_result : tie.Need-bounds-text-start
 shared_slice_read_result c = search rules
 
-add_result : tie.Need-overflow-add-result
+add_result : tie.Need-overflow_add-result
 add_result c = search rules
 
-shared_slice_read_result_2 : tie.Need-shared-slice-read-result-2
+shared_slice_read_result_2 : tie.Need-bounds-text-start-2
 shared_slice_read_result_2 c = search rules
 
-add_result_2 : tie.Need-overflow-add-result-2
+add_result_2 : tie.Need-overflow_add-result-2
 add_result_2 c = search rules
 
-shared_slice_read_result_3 : tie.Need-shared-slice-read-result-3
+shared_slice_read_result_3 : tie.Need-bounds-text-start-3
 shared_slice_read_result_3 c = search rules
 
-returns_3 : tie.Need-returns-3
+returns_3 : tie.Need-returns
 unfolding spells_nan
 returns_3 c = refl
 
