@@ -4,7 +4,7 @@ use Prim.Native.Nat.{ℕ, zero, suc, ◌+◌, ◌-◌, ◌≤◌, ◌<◌}
 use native.Mathlib.Omega.{arith}
 use native.Mathlib.Decide.{dec_lt}
 use native.Mathlib.Numerals.{add-one}
-use mathlib.Core.Path.{◌≡◌, refl, sym, ap, ◌∙◌}
+use mathlib.Core.Path.{◌≡◌, refl, sym, ap, ◌∙◌, subst}
 use mathlib.Core.Bool.{Bool, true, false, cond}
 use mathlib.Core.List.Memᴰ
 use mathlib.Core.List.{List, [], ◌∷◌, ◌++◌, Memᴰ}
@@ -103,7 +103,7 @@ module _ (lists : ℕ → List ℕ) where
         go (yes lt) before =
             let q : List ℕ = (visited lists k).queue in
             let list : List ℕ = lists (get_or q k 0) in
-            rw (visited_next k lt)
+            subst (λ (w : Visit). w.entries_read ≡ sum_below (λ j. length (lists (get_or w.queue j 0))) (suc k)) (sym (visited_next k lt))
             (let same = sum_extensional (λ j. length (lists (get_or (entered q list) j 0))) (λ j. length (lists (get_or q j 0))) k
             (λ j lj. ap (λ (v : ℕ). length (lists v)) (entered_keeps q list j (omega arith))) in
             let last : length (lists (get_or (entered q list) k 0)) ≡ length list = ap (λ (v : ℕ). length (lists v)) (entered_keeps q list k lt) in

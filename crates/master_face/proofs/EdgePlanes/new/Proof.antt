@@ -4,18 +4,18 @@ use borrow.Author.Rules.{rules}
 use Rattle.master_face.proofs.EdgePlanes.new.Statement.{statement}
 use Rattle.master_face.proofs.EdgePlanes.new.Tie as tie
 
-cross_requires : tie.Need-cross-requires
+cross_requires : tie.Need-cross-first-requires
 cross_requires c κs = search rules
 
-cross_requires_2 : tie.Need-cross-requires-2
+cross_requires_2 : tie.Need-cross-second-requires
 cross_requires_2 c κs = search rules
 
-cross_requires_3 : tie.Need-cross-requires-3
+cross_requires_3 : tie.Need-cross-third-requires
 cross_requires_3 c κs = search rules
 
 returns : tie.Need-returns
 unfolding edge_planes_of
-returns c = rw (c.cross3.ensures, c.before.cross2.ensures, c.before.before.cross.ensures)
+returns c = rw (c.cross-third.ensures, c.cross-second.ensures, c.cross-first.ensures)
 
 pub new_spec : {M : Type 1} → statement M
 new_spec = tie.close (tie.spec cross_requires cross_requires_2 cross_requires_3 returns)

@@ -15,7 +15,7 @@ dot_requires_3 c κs = search rules
 
 returns : tie.Need-returns
 unfolding outside_of
-returns c = rw (c.dot3.ensures, c.before.dot2.ensures, c.before.before.dot.ensures)
+returns c = rw (c.dot-3.ensures, c.dot-2.ensures, c.dot.ensures)
 
 pub outside_spec : {M : Type 1} → statement M
 outside_spec = tie.close (tie.spec dot_requires dot_requires_2 dot_requires_3 returns)

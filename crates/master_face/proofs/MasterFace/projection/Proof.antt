@@ -12,7 +12,7 @@ scale_requires c κs = search rules
 
 returns : tie.Need-returns
 unfolding radial_projection
-returns c = rw (c.scale.ensures, c.before.before.dot.ensures)
+returns c = rw (c.scale.ensures, c.dot.ensures)
 
 pub projection_spec : {M : Type 1} → statement M
 projection_spec = tie.close (tie.spec dot_requires scale_requires returns)

@@ -9,86 +9,86 @@ use Rattle.master_face.specs.MasterFace.{gram_of, edge_planes_of, master_face, m
 use Rattle.master_face.proofs.faces.master_face_of.Statement.{statement}
 use Rattle.master_face.proofs.faces.master_face_of.Tie as tie
 
-returns : tie.Need-returns
+returns : tie.Need-returns-in-0
 unfolding master_face_of master_face gram_of edge_planes_of icosahedron_point face_corner square_root add sub mul div of_bits
-returns c = rw c.match.keys1
+returns c = rw c.in-0.is
 
-returns_2 : tie.Need-returns-2
+returns_2 : tie.Need-returns-in-1
 unfolding master_face_of master_face gram_of edge_planes_of icosahedron_point face_corner square_root add sub mul div of_bits
-returns_2 c = rw c.match.keys2
+returns_2 c = rw c.in-1.is
 
-returns_3 : tie.Need-returns-3
+returns_3 : tie.Need-returns-in-2
 unfolding master_face_of master_face gram_of edge_planes_of icosahedron_point face_corner square_root add sub mul div of_bits
-returns_3 c = rw c.match.keys3
+returns_3 c = rw c.in-2.is
 
-returns_4 : tie.Need-returns-4
+returns_4 : tie.Need-returns-in-3
 unfolding master_face_of master_face gram_of edge_planes_of icosahedron_point face_corner square_root add sub mul div of_bits
-returns_4 c = rw c.match.keys4
+returns_4 c = rw c.in-3.is
 
-returns_5 : tie.Need-returns-5
+returns_5 : tie.Need-returns-in-4
 unfolding master_face_of master_face gram_of edge_planes_of icosahedron_point face_corner square_root add sub mul div of_bits
-returns_5 c = rw c.match.keys5
+returns_5 c = rw c.in-4.is
 
-returns_6 : tie.Need-returns-6
+returns_6 : tie.Need-returns-in-5
 unfolding master_face_of master_face gram_of edge_planes_of icosahedron_point face_corner square_root add sub mul div of_bits
-returns_6 c = rw c.match.keys6
+returns_6 c = rw c.in-5.is
 
-returns_7 : tie.Need-returns-7
+returns_7 : tie.Need-returns-in-6
 unfolding master_face_of master_face gram_of edge_planes_of icosahedron_point face_corner square_root add sub mul div of_bits
-returns_7 c = rw c.match.keys7
+returns_7 c = rw c.in-6.is
 
-returns_8 : tie.Need-returns-8
+returns_8 : tie.Need-returns-in-7
 unfolding master_face_of master_face gram_of edge_planes_of icosahedron_point face_corner square_root add sub mul div of_bits
-returns_8 c = rw c.match.keys8
+returns_8 c = rw c.in-7.is
 
-returns_9 : tie.Need-returns-9
+returns_9 : tie.Need-returns-in-8
 unfolding master_face_of master_face gram_of edge_planes_of icosahedron_point face_corner square_root add sub mul div of_bits
-returns_9 c = rw c.match.keys9
+returns_9 c = rw c.in-8.is
 
-returns_10 : tie.Need-returns-10
+returns_10 : tie.Need-returns-in-9
 unfolding master_face_of master_face gram_of edge_planes_of icosahedron_point face_corner square_root add sub mul div of_bits
-returns_10 c = rw c.match.keys10
+returns_10 c = rw c.in-9.is
 
-returns_11 : tie.Need-returns-11
+returns_11 : tie.Need-returns-in-10
 unfolding master_face_of master_face gram_of edge_planes_of icosahedron_point face_corner square_root add sub mul div of_bits
-returns_11 c = rw c.match.keys11
+returns_11 c = rw c.in-10.is
 
-returns_12 : tie.Need-returns-12
+returns_12 : tie.Need-returns-in-11
 unfolding master_face_of master_face gram_of edge_planes_of icosahedron_point face_corner square_root add sub mul div of_bits
-returns_12 c = rw c.match.keys12
+returns_12 c = rw c.in-11.is
 
-returns_13 : tie.Need-returns-13
+returns_13 : tie.Need-returns-in-12
 unfolding master_face_of master_face gram_of edge_planes_of icosahedron_point face_corner square_root add sub mul div of_bits
-returns_13 c = rw c.match.keys13
+returns_13 c = rw c.in-12.is
 
-returns_14 : tie.Need-returns-14
+returns_14 : tie.Need-returns-in-13
 unfolding master_face_of master_face gram_of edge_planes_of icosahedron_point face_corner square_root add sub mul div of_bits
-returns_14 c = rw c.match.keys14
+returns_14 c = rw c.in-13.is
 
-returns_15 : tie.Need-returns-15
+returns_15 : tie.Need-returns-in-14
 unfolding master_face_of master_face gram_of edge_planes_of icosahedron_point face_corner square_root add sub mul div of_bits
-returns_15 c = rw c.match.keys15
+returns_15 c = rw c.in-14.is
 
-returns_16 : tie.Need-returns-16
+returns_16 : tie.Need-returns-in-15
 unfolding master_face_of master_face gram_of edge_planes_of icosahedron_point face_corner square_root add sub mul div of_bits
-returns_16 c = rw c.match.keys16
+returns_16 c = rw c.in-15.is
 
-returns_17 : tie.Need-returns-17
+returns_17 : tie.Need-returns-in-16
 unfolding master_face_of master_face gram_of edge_planes_of icosahedron_point face_corner square_root add sub mul div of_bits
-returns_17 c = rw c.match.keys17
+returns_17 c = rw c.in-16.is
 
-returns_18 : tie.Need-returns-18
+returns_18 : tie.Need-returns-in-17
 unfolding master_face_of master_face gram_of edge_planes_of icosahedron_point face_corner square_root add sub mul div of_bits
-returns_18 c = rw c.match.keys18
+returns_18 c = rw c.in-17.is
 
-returns_19 : tie.Need-returns-19
+returns_19 : tie.Need-returns-in-18
 unfolding master_face_of master_face gram_of edge_planes_of icosahedron_point face_corner square_root add sub mul div of_bits
-returns_19 c = rw c.match.keys19
+returns_19 c = rw c.in-18.is
 
-returns_20 : tie.Need-returns-20
+returns_20 : tie.Need-returns-in_default
 unfolding master_face_of master_face gram_of edge_planes_of icosahedron_point face_corner square_root add sub mul div of_bits
 returns_20 c =
-    let last : c.before.args.index ≡ 19 = omega (arith, at_least 19 c.before.args.index c.match.rest) in
+    let last : c.args.index ≡ 19 = omega (arith, at_least 19 c.args.index c.in_default.in_default-own.rest) in
     rw last
 
 pub master_face_of_spec : {M : Type 1} → statement M
