@@ -1,5 +1,5 @@
-//! Finds the proved archive and links it: `KOSHIRGA_ARCHIVE`, or else what `rt staticlib c_api`
-//! makes at the repository's root. Without `rt` an archive that is already there is taken.
+//! Finds the proved archive and links it: `KOSHIRGA_ARCHIVE`, or else what `tools/archive` makes.
+//! Without `rt` an archive that is already there is taken.
 
 use std::io::ErrorKind;
 use std::path::{Path, PathBuf};
@@ -32,33 +32,46 @@ fn as_it_is(archive: PathBuf) -> PathBuf {
 
 /// The archive of the crates as they are now, which decide alone when it is made again.
 fn proved_archive(root: &Path) -> PathBuf {
-    for part in ["crates.txt", "crates"] {
-        println!("cargo:rerun-if-changed={}", root.join(part).display());
+    println!(
+        "cargo:rerun-if-changed={}",
+        root.join("crates.txt").display()
+    );
+    for entry in fs::read_dir(root.join("crates"))
+        .into_iter()
+        .flatten()
+        .flatten()
+    {
+        for part in ["src", "specs", "proofs"] {
+            let part = entry.path().join(part);
+            if part.is_dir() {
+                println!("cargo:rerun-if-changed={}", part.display());
+            }
+        }
     }
     let archive = root.join("target/staticlib/libc_api.a");
-    match Command::new("rt")
-        .args(["staticlib", "c_api"])
-        .current_dir(root)
-        .output()
-    {
-        Ok(run) if run.status.success() => archive,
-        Ok(run) => fail(&format!(
-            "`rt staticlib c_api` failed at {}\n{}{}",
-            root.display(),
-            String::from_utf8_lossy(&run.stdout),
-            String::from_utf8_lossy(&run.stderr)
-        )),
+    match Command::new("rt").arg("version").output() {
+        Ok(_) => {}
         Err(e) if e.kind() == ErrorKind::NotFound && archive.is_file() => {
             println!(
                 "cargo:warning=no `rt` here: linking {} as it is",
                 archive.display()
             );
-            as_it_is(archive)
+            return as_it_is(archive);
         }
         Err(e) => fail(&format!(
-            "`rt staticlib c_api` can't be run: {e}\n\
-             set KOSHIRGA_ARCHIVE to an archive that it made elsewhere"
+            "`rt` can't be run: {e}\n\
+             set KOSHIRGA_ARCHIVE to an archive that `tools/archive` made elsewhere"
         )),
+    }
+    match Command::new(root.join("tools/archive")).output() {
+        Ok(run) if run.status.success() => archive,
+        Ok(run) => fail(&format!(
+            "`tools/archive` failed at {}\n{}{}",
+            root.display(),
+            String::from_utf8_lossy(&run.stdout),
+            String::from_utf8_lossy(&run.stderr)
+        )),
+        Err(e) => fail(&format!("`tools/archive` can't be run: {e}")),
     }
 }
 
