@@ -117,6 +117,7 @@ place_none n k (x ∷ l) p h = rw (h x (Memᴰ.head refl)) (place_none n (suc k)
 
 place_some : (n k : ℕ) (l : List LatticePoint) (p q : LatticePoint) → Memᴰ q l → same_vertex n q p ≡ true → first_place_from n k l p < k + length l
 unfolding first_place_from
+place_some n k [] p q m h = elim m [ ]
 place_some n k (x ∷ l) p q m h = go (true_or_false (same_vertex n x p)) (Memᴰ.cases_cons m) (λ ml. place_some n (suc k) l p q ml h)
   where
     rest : (q ≡ x) ⊎ Memᴰ q l → same_vertex n x p ≡ false → (Memᴰ q l → first_place_from n (suc k) l p < suc k + length l) → first_place_from n (suc k) l p < k + suc (length l)

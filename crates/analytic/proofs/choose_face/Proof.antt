@@ -5,22 +5,22 @@ use borrow.Author.Tests.{lt-leb}
 use Rattle.analytic.proofs.choose_face.Statement.{statement}
 use Rattle.analytic.proofs.choose_face.Tie as tie
 
-flag_sum_requires : tie.Need-flag-sum-requires
+flag_sum_requires : tie.Need-flag_sum-sum-requires
 flag_sum_requires c κs = search rules
 
-mapped_face_requires : tie.Need-mapped-face-requires
+mapped_face_requires : tie.Need-mapped_face-requires
 mapped_face_requires c κs = search rules
 
 new_requires : tie.Need-new-requires
 new_requires c κs = search rules
 
-returns : tie.Need-returns
+returns : tie.Need-returns-then-sum-le3
 unfolding choose_face
-returns c = rw (c.mapped-face.ensures, ← c.before.before.flag-sum.ensures, le-leb _ _ c.before.if1.true)
+returns c = rw (c.mapped_face.ensures, ← c.flag_sum-sum.ensures, le-leb _ _ c.if-sum-le3.true)
 
-returns_2 : tie.Need-returns-2
+returns_2 : tie.Need-returns-else-sum-le3
 unfolding choose_face
-returns_2 c = rw (c.new.ensures, ← c.before.before.flag-sum.ensures, lt-leb _ _ c.before.if1.false)
+returns_2 c = rw (c.new.ensures, ← c.flag_sum-sum.ensures, lt-leb _ _ c.if-sum-le3.false)
 
 pub choose_face_spec : {M : Type 1} → statement M
 choose_face_spec =

@@ -8,37 +8,37 @@ use Rattle.analytic.proofs.clamped_floor.Statement.{statement}
 use Rattle.analytic.proofs.clamped_floor.Tie as tie
 
 of_format : (c : tie.Start) → T (fits binary64 c.args.u)
-of_format c = passes (fits binary64 c.args.u) c.well-formed.1.0.1
+of_format c = passes (fits binary64 c.args.u) c.well_formed.1.0.1
 
-truncating_f64_to_u64_requires : tie.Need-truncating-f64-to-u64-requires
+truncating_f64_to_u64_requires : tie.Need-truncating_f64_to_u64-requires
 unfolding of_bits
-truncating_f64_to_u64_requires c κs = truncation_asks c.before.before.args.u (subst T (sym c.before.if1.true) tt) c.if2.true
+truncating_f64_to_u64_requires c κs = truncation_asks c.args.u (subst T (sym c.if-u.true) tt) c.if-u-2.true
 
 lesser_requires : tie.Need-lesser-requires
 lesser_requires c κs = search rules
 
-cast_result : tie.Need-overflow-cast-result
+cast_result : tie.Need-overflow_cast-result
 cast_result c = search rules
 
-cast_result_2 : tie.Need-overflow-cast-result-2
+cast_result_2 : tie.Need-overflow_cast-result-else-u-2
 cast_result_2 c = search rules
 
-returns : tie.Need-returns
+returns : tie.Need-returns-then-u-2
 unfolding of_bits
 returns c =
     let way = c.before.before in
     let start = way.before.before in
-    rw (c.lesser.ensures, c.before.truncating-f64-to-u64.ensures) (floor_truncated start.args.n start.args.u start.requires (of_format start) way.before.if1.true way.if2.true)
+    rw (c.lesser.ensures, c.truncating_f64_to_u64.ensures) (floor_truncated start.args.n start.args.u start.requires (of_format start) way.if-u.true way.if-u-2.true)
 
-returns_2 : tie.Need-returns-2
+returns_2 : tie.Need-returns-else-u-2
 unfolding of_bits
 returns_2 c =
     let start = c.before.before in
-    floor_beyond start.args.n start.args.u start.requires (of_format start) c.before.if1.true c.if2.false
+    floor_beyond start.args.n start.args.u start.requires (of_format start) c.if-u.true c.if-u-2.false
 
-returns_3 : tie.Need-returns-3
+returns_3 : tie.Need-returns-else-u
 unfolding of_bits
-returns_3 c = floor_none c.before.args.n c.before.args.u c.before.requires (of_format c.before) c.if1.false
+returns_3 c = floor_none c.args.n c.args.u c.requires (of_format c.before) c.if-u.false
 
 pub clamped_floor_spec : {M : Type 1} → statement M
 clamped_floor_spec =

@@ -5,24 +5,24 @@ use Rattle.std.proofs.Common.{arith, rules}
 use Rattle.analytic.proofs.master_face.Statement.{statement}
 use Rattle.analytic.proofs.master_face.Tie as tie
 
-signs_of_requires : tie.Need-signs-of-requires
+signs_of_requires : tie.Need-signs_of-signs-requires
 signs_of_requires c κs = search rules
 
-mapped_face_requires : tie.Need-mapped-face-requires
+mapped_face_requires : tie.Need-mapped_face-requires
 mapped_face_requires c κs = search rules
 
-master_face_of_requires : tie.Need-master-face-of-requires
-master_face_of_requires c κs = omega (arith, c.mapped-face.ensures, mapped_face_below c.before.signs_of.result 0)
+master_face_of_requires : tie.Need-master_face_of-first-requires
+master_face_of_requires c κs = omega (arith, c.mapped_face.ensures, mapped_face_below c.signs_of-signs.result 0)
 
 outside_requires : tie.Need-outside-requires
 outside_requires c κs = search rules
 
-choose_face_requires : tie.Need-choose-face-requires
+choose_face_requires : tie.Need-choose_face-requires
 choose_face_requires c κs = search rules
 
 returns : tie.Need-returns
 unfolding face_choice_of outside_first
-returns c = rw (c.choose-face.ensures, c.before.outside.ensures, c.before.before.master-face-of.ensures, c.before.before.before.mapped-face.ensures, c.before.before.before.before.signs_of.ensures)
+returns c = rw (c.choose_face.ensures, c.outside.ensures, c.master_face_of-first.ensures, c.mapped_face.ensures, c.signs_of-signs.ensures)
 
 pub master_face_spec : {M : Type 1} → statement M
 master_face_spec =

@@ -4,13 +4,13 @@ use Rattle.std.proofs.Common.{rules}
 use Rattle.analytic.proofs.triple_below.Statement.{statement}
 use Rattle.analytic.proofs.triple_below.Tie as tie
 
-cast_result : tie.Need-overflow-cast-result
+cast_result : tie.Need-overflow_cast-result
 cast_result c = search rules
 
-cast_result_2 : tie.Need-overflow-cast-result-2
+cast_result_2 : tie.Need-overflow_cast-result-2
 cast_result_2 c = search rules
 
-cast_result_3 : tie.Need-overflow-cast-result-3
+cast_result_3 : tie.Need-overflow_cast-result-3
 cast_result_3 c = search rules
 
 returns : tie.Need-returns

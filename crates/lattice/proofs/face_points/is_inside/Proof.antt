@@ -4,7 +4,7 @@ use Rattle.std.proofs.Common.{rules}
 use Rattle.lattice.proofs.face_points.is_inside.Statement.{statement}
 use Rattle.lattice.proofs.face_points.is_inside.Tie as tie
 
-add_result : tie.Need-overflow-add-result
+add_result : tie.Need-overflow_add-result
 add_result c = search rules
 
 returns : tie.Need-returns
