@@ -26,9 +26,9 @@ row_9 : (c : tie.Else-not-is_admissible) → admissible c.args.direction ≡ tru
 row_9 c = sym c.is_admissible.ensures ∙ not-false _ c.if-not-is_admissible.false-raw
 
 -- ---- the face of the match
-chosen : (c : tie.In-Face-2) → let p = c.args.direction in
-    (flags_fit (outside_first p) ≡ true) × (c.in-Face-2.face ≡ mapped_face (signs_of p) (flag_sum (outside_first p)))
-chosen c = face_chosen _ _ (sym c.master_face.ensures ∙ c.in-Face-2.is)
+chosen : (c : tie.In-Face) → let p = c.args.direction in
+    (flags_fit (outside_first p) ≡ true) × (c.in-Face.face ≡ mapped_face (signs_of p) (flag_sum (outside_first p)))
+chosen c = face_chosen _ _ (sym c.master_face.ensures ∙ c.in-Face.is)
 
 frequency_fits_requires : tie.Need-frequency_fits-requires
 frequency_fits_requires c κs = search rules
@@ -91,25 +91,25 @@ enum_known_face : tie.Need-enum_known-face
 enum_known_face c = search rules
 
 -- a face, and a table with room for it
-on_face : (c : tie.In-Face-2) → let s = c.args in
-    (s.frequency ≤ 80) × ((c.in-Face-2.face < 20) × (20 * slots_per_face s.frequency ≤ length s.id_table.now))
+on_face : (c : tie.In-Face) → let s = c.args in
+    (s.frequency ≤ 80) × ((c.in-Face.face < 20) × (20 * slots_per_face s.frequency ≤ length s.id_table.now))
 on_face c =
     let k = c in
     let low = k in
     let s = low.args in
-    ((frequency_range _ (row_1 low.before.before.before.before.before.before.before)).1, (omega (arith, (chosen c).1, mapped_face_below (signs_of s.direction) (flag_sum (outside_first s.direction))), omega (arith, k.slots_per_face.ensures, k.if-id_table-slots_per_face.false)))
+    ((frequency_range _ (row_1 low.before.before.before.before.before.before)).1, (omega (arith, (chosen c).1, mapped_face_below (signs_of s.direction) (flag_sum (outside_first s.direction))), omega (arith, k.slots_per_face.ensures, k.if-id_table-slots_per_face.false)))
 
 master_face_of_requires : tie.Need-master_face_of-requires
 master_face_of_requires c κs = (on_face c).1.0
 
 sub_triangle_on_requires : tie.Need-sub_triangle_on-t-requires
-sub_triangle_on_requires c κs = (on_face c).0
+sub_triangle_on_requires c κs = (on_face c.before).0
 
 corner_ids_requires : tie.Need-corner_ids-triple-requires
-corner_ids_requires c κs = on_face c
+corner_ids_requires c κs = on_face c.before.before
 
 lattice_vertex_count_requires : tie.Need-lattice_vertex_count-requires
-lattice_vertex_count_requires c κs = (on_face c).0
+lattice_vertex_count_requires c κs = (on_face c.before.before.before).0
 
 triple_below_requires : tie.Need-triple_below-requires
 triple_below_requires c κs = search rules
@@ -135,8 +135,8 @@ answered c =
     let f = c in
     let k = f in
     let s = k.args in
-    rw (c.triple_below.ensures, c.lattice_vertex_count.ensures, c.corner_ids-triple.ensures, c.sub_triangle_on-t.ensures, c.master_face_of.ensures, (chosen f).1)
-    (location_accepted s.frequency s.id_table.now s.direction (row_1 k.before.before.before.before.before.before.before.before.before.before.before) (row_8 k.before.before.before.before.before.before.before.before.before) (row_9 k.before.before.before.before.before.before.before) (chosen f).0)
+    rw (c.triple_below.ensures, c.lattice_vertex_count.ensures, c.corner_ids-triple.ensures, c.sub_triangle_on-t.ensures, c.master_face_of.ensures, (chosen f.before.before.before.before.before).1)
+    (location_accepted s.frequency s.id_table.now s.direction (row_1 k.before.before.before.before.before.before.before.before.before.before.before) (row_8 k.before.before.before.before.before.before.before.before.before) (row_9 k.before.before.before.before.before.before.before) (chosen f.before.before.before.before.before).0)
 
 returns_5 : tie.Need-returns-then-triple_below
 returns_5 c = rw c.if-triple_below.true at (answered c.before.before)
