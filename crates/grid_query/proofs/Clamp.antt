@@ -22,6 +22,8 @@ AtMost n (fin false m e) = m * up e ≤ n * down e
 value_at_most : (n : ℕ) (x : Float) → HasValue x false n 1 → AtMost n x
 value_at_most n (fin true m e) v = tt
 value_at_most n (fin false m e) v = omega (arith, v.1)
+value_at_most n nan v = elim v [ ]
+value_at_most n (inf _) v = elim v [ ]
 
 zero_at_most : (n : ℕ) → AtMost n positive_zero
 unfolding of_bits
@@ -40,6 +42,8 @@ not_above_at_most n (fin false k f) (fin false m e) v h =
     let b : k * up f ≡ n * down f = sym (mul-one (k * up f)) ∙ v.1 in
     let c : k * up f * down e ≡ n * down e * down f = ap (λ (x : ℕ). x * down e) b ∙ mul_right_comm n (down f) (down e) in
     le_of_mul-le-mul_right {k = down f} (omega arith) (down_pos f)
+not_above_at_most n nan _ v h = elim v [ ]
+not_above_at_most n (inf _) _ v h = elim v [ ]
 
 pub clamp_at_most : (n : ℕ) (x : Float) → n ≤ 2 ^ 53 → AtMost n (cond (lt x positive_zero) positive_zero (cond (lt (whole n) x) (whole n) x))
 clamp_at_most n x h = go (lt x positive_zero) (lt (whole n) x) refl

@@ -110,7 +110,7 @@ module _ (P : Refusal → Type 0) (plain : (number : ℕ) → number ≢ 17 → 
   kept_reason : (direction : Vector3) (kept : Located) (ts : List (List ℕ)) → LocatedReason P kept → LocatedReason P (kept_of positions direction kept ts)
   unfolding kept_by
   kept_reason direction kept [] reason = reason
-  kept_reason direction kept (t ∷ ts) reason = kept_reason direction _ ts (either (lt (least_kept kept) (least_kept (weighed positions direction t))))
+  kept_reason direction kept (t ∷ ts) reason = kept_reason direction (cond (lt (least_kept kept) (least_kept (weighed positions direction t))) (weighed positions direction t) kept) ts (either (lt (least_kept kept) (least_kept (weighed positions direction t))))
     where
       either : (b : Bool) → LocatedReason P (cond b (weighed positions direction t) kept)
       either true = weighed_reason direction t

@@ -50,7 +50,7 @@ kept_sound n positions direction kept [] below sound = sound
 kept_sound n positions direction kept (a ∷ []) below sound = sound
 kept_sound n positions direction kept (a ∷ b ∷ []) below sound = sound
 kept_sound n positions direction kept (a ∷ b ∷ c ∷ rest) below sound =
-    kept_sound n positions direction _ rest (λ i lt. below (suc (suc (suc i))) (omega arith)) (better (lt (least_kept kept) (least_kept next)) refl)
+    kept_sound n positions direction (cond (lt (least_kept kept) (least_kept next)) next kept) rest (λ i lt. below (suc (suc (suc i))) (omega arith)) (better (lt (least_kept kept) (least_kept next)) refl)
   where
     next : Located
     next = weighed positions direction (a ∷ b ∷ c ∷ [])

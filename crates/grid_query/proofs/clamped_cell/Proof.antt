@@ -9,39 +9,39 @@ use Rattle.grid_query.proofs.Clamp.{AtMost, clamp_at_most, below_word, not_posit
 use Rattle.grid_query.proofs.clamped_cell.Statement.{statement}
 use Rattle.grid_query.proofs.clamped_cell.Tie as tie
 
-sub_last : tie.Need-overflow-sub-last
+sub_last : tie.Need-overflow_sub-last
 sub_last c = search rules
 
-int_to_float_last : tie.Need-int-to-float-last
+int_to_float_last : tie.Need-int_to_float-last
 unfolding in_float
-int_to_float_last c = le→leb (c.before.args.side - 1) (2 ^ 53) (omega arith)
+int_to_float_last c = le→leb (c.args.side - 1) (2 ^ 53) (omega arith)
 
 -- what the clamp leaves
-clamped : (c : tie.Joined1) → let a = c.before.before.args in
-    c.if1.clamped ≡ cond (lt a.x positive_zero) positive_zero (cond (lt (whole (a.side - 1)) a.x) (whole (a.side - 1)) a.x)
+clamped : (c : tie.Joined-x) → let a = c.args in
+    c.if-x.clamped ≡ cond (lt a.x positive_zero) positive_zero (cond (lt (whole (a.side - 1)) a.x) (whole (a.side - 1)) a.x)
 unfolding of_bits
 clamped c =
     ⊎_elim
-    (λ w. rw w.0.taken w.1)
+    (λ w. rw w.if-x.true w.clamped-is)
     (⊎_elim
-    (λ w. rw (w.0.left, w.1.taken) w.2)
-    (λ w. rw (w.0.left, w.1.left) w.2))
-    c.if1.branch
+    (λ w. rw (w.if-x.false, w.if-x-last.true) w.clamped-is)
+    (λ w. rw (w.if-x.false, w.if-x-last.false) w.clamped-is))
+    c.if-x.branch-raw
 
-truncating_f64_to_u64_requires : tie.Need-truncating-f64-to-u64-requires
+truncating_f64_to_u64_requires : tie.Need-truncating_f64_to_u64-requires
 unfolding of_bits
 truncating_f64_to_u64_requires c κs =
-    let a = c.before.before.before.args in
-    let at_most : AtMost (a.side - 1) c.before.if1.clamped = rw (clamped c.before) (clamp_at_most (a.side - 1) a.x (omega arith)) in
-    (above_minus_one c.before.if1.clamped c.if3.true, below_word (a.side - 1) c.before.if1.clamped (omega arith) at_most c.if3.true)
+    let a = c.args in
+    let at_most : AtMost (a.side - 1) c.if-x.clamped = rw (clamped c.before) (clamp_at_most (a.side - 1) a.x (omega arith)) in
+    (above_minus_one c.if-x.clamped c.if-clamped.true, below_word (a.side - 1) c.if-x.clamped (omega arith) at_most c.if-clamped.true)
 
-returns : tie.Need-returns
+returns : tie.Need-returns-then-clamped
 unfolding clamped_cell
-returns c = c.truncating-f64-to-u64.ensures ∙ ap (to_unsigned 64) (clamped c.before.before)
+returns c = c.truncating_f64_to_u64.ensures ∙ ap (to_unsigned 64) (clamped c.before.before)
 
-returns_2 : tie.Need-returns-2
+returns_2 : tie.Need-returns-else-clamped
 unfolding clamped_cell of_bits
-returns_2 c = sym (not_positive_converts 64 c.before.if1.clamped c.if3.false) ∙ ap (to_unsigned 64) (clamped c.before)
+returns_2 c = sym (not_positive_converts 64 c.if-x.clamped c.if-clamped.false) ∙ ap (to_unsigned 64) (clamped c.before)
 
 pub clamped_cell_spec : {M : Type 1} → statement M
 clamped_cell_spec =

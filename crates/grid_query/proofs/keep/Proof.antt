@@ -4,23 +4,23 @@ use Rattle.barycentric.proofs.LeastWeight.{least_not_above}
 use Rattle.grid_query.proofs.keep.Statement.{statement}
 use Rattle.grid_query.proofs.keep.Tie as tie
 
-least_kept_requires : tie.Need-least-kept-requires
+least_kept_requires : tie.Need-least_kept-bound-requires
 least_kept_requires c κs = search rules
 
 -- a weight is too low
-returns : tie.Need-returns
+returns : tie.Need-returns-then-weights-bound
 returns c =
     let s = c.before.before.before.before in
-    rw (← s.Least-kept.ensures, least_not_above s.before.args.weights _ c.if1.true)
+    rw (← s.least_kept-bound.ensures, least_not_above s.args.weights _ c.if-weights-bound.true)
 
-least_weight_requires : tie.Need-least-weight-requires
+least_weight_requires : tie.Need-least_weight-least-requires
 least_weight_requires c κs = search rules
 
-returns_2 : tie.Need-returns-2
-returns_2 c = rw (← c.before.before.before.before.before.before.Least-kept.ensures, ← c.before.least-weight.ensures, c.if2.true)
+returns_2 : tie.Need-returns-then-least-bound
+returns_2 c = rw (← c.least_kept-bound.ensures, ← c.least_weight-least.ensures, c.if-least-bound.true)
 
-returns_3 : tie.Need-returns-3
-returns_3 c = rw (← c.before.before.before.before.before.before.Least-kept.ensures, ← c.before.least-weight.ensures, c.if2.false)
+returns_3 : tie.Need-returns-else-least-bound
+returns_3 c = rw (← c.least_kept-bound.ensures, ← c.least_weight-least.ensures, c.if-least-bound.false)
 
 pub keep_spec : {M : Type 1} → statement M
 keep_spec = tie.close (tie.spec least_kept_requires returns least_weight_requires returns_2 returns_3)

@@ -4,17 +4,17 @@ use lib.Ieee.{of_bits, neg, div}
 use Rattle.grid_query.proofs.least_kept.Statement.{statement}
 use Rattle.grid_query.proofs.least_kept.Tie as tie
 
-enum_told : tie.Need-enum-told
+enum_told : tie.Need-enum_told-1
 enum_told c = search rules
 
-enum_known_kept : tie.Need-enum-known-kept
+enum_known_kept : tie.Need-enum_known-kept
 enum_known_kept c = search rules
 
-returns : tie.Need-returns
+returns : tie.Need-returns-in-Refused
 unfolding of_bits neg div
-returns c = rw c.enum_told.given.1
+returns c = rw c.in-Refused.is
 
-returns_2 : tie.Need-returns-2
+returns_2 : tie.Need-returns-in-At
 returns_2 c = search rules
 
 pub least_kept_spec : {M : Type 1} → statement M

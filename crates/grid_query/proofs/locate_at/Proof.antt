@@ -13,131 +13,131 @@ use Rattle.grid_query.proofs.Parts.{falling_tested, triples_tested, triples_read
 use Rattle.grid_query.proofs.locate_at.Statement.{statement}
 use Rattle.grid_query.proofs.locate_at.Tie as tie
 
-abbrev the_start : tie.After-shared-slice-known5 → tie.Start
+abbrev the_start : tie.After-shared_slice_known-5-1 → tie.Start
 the_start c = c.before.before.before.before.before
 
-abbrev first_of : tie.After-shared-slice-known5 → ℕ
-first_of c = get_or (the_start c).args.triangle-starts.now (the_start c).args.vertex 0
+abbrev first_of : tie.After-shared_slice_known-5-1 → ℕ
+first_of c = get_or (the_start c).args.triangle_starts.now (the_start c).args.vertex 0
 
-abbrev end_of : tie.After-shared-slice-known5 → ℕ
-end_of c = get_or (the_start c).args.triangle-starts.now ((the_start c).args.vertex + 1) 0
+abbrev end_of : tie.After-shared_slice_known-5-1 → ℕ
+end_of c = get_or (the_start c).args.triangle_starts.now ((the_start c).args.vertex + 1) 0
 
-abbrev part_of : tie.After-shared-slice-known5 → List ℕ
+abbrev part_of : tie.After-shared_slice_known-5-1 → List ℕ
 part_of c = take (end_of c * 3 - first_of c * 3) (drop (first_of c * 3) (the_start c).args.triples.now)
 
-abbrev lent : tie.After-shared-slice-known5 → Settings → ℕ → List ℕ → List ℕ → Grid
-lent c settings side cell-starts cell-ids = lent_grid settings side cell-starts cell-ids (the_start c).args.triangle-starts.now (the_start c).args.triples.now
+abbrev lent : tie.After-shared_slice_known-5-1 → Settings → ℕ → List ℕ → List ℕ → Grid
+lent c settings side cell-starts cell-ids = lent_grid settings side cell-starts cell-ids (the_start c).args.triangle_starts.now (the_start c).args.triples.now
 
 -- starts are of 32 bits
-small : (c : tie.After-shared-slice-known5) → (first_of c < 2 ^ 32) × (end_of c < 2 ^ 32)
-small c = (omega (arith, c.shared-slice-known5.given (the_start c).args.vertex), omega (arith, c.shared-slice-known5.given ((the_start c).args.vertex + 1)))
+small : (c : tie.After-shared_slice_known-5-1) → (first_of c < 2 ^ 32) × (end_of c < 2 ^ 32)
+small c = (omega (arith, c.shared_slice_known-5-1.given (the_start c).args.vertex), omega (arith, c.shared_slice_known-5-1.given ((the_start c).args.vertex + 1)))
 
 -- a part that rows 18 and 3 let pass
-inside : (c : tie.Else2) → let k = c.before.before in (first_of k ≤ end_of k) × (end_of k * 3 ≤ length (the_start k).args.triples.now)
-inside c = (c.before.if1.false, c.if2.false)
+inside : (c : tie.Else-end-triples) → let k = c.before.before in (first_of k ≤ end_of k) × (end_of k * 3 ≤ length (the_start k).args.triples.now)
+inside c = (c.if-end-start.false, c.if-end-triples.false)
 
-ascends : (c : tie.Else1) → let a = (the_start c.before).args in not_falling a.triangle-starts.now a.vertex ≡ true
-ascends c = let a = (the_start c.before).args in sym (falling_tested a.triangle-starts.now a.vertex) ∙ le-leb _ _ c.if1.false
+ascends : (c : tie.Else-end-start) → let a = (the_start c.before).args in not_falling a.triangle_starts.now a.vertex ≡ true
+ascends c = let a = (the_start c.before).args in sym (falling_tested a.triangle_starts.now a.vertex) ∙ le-leb _ _ c.if-end-start.false
 
-module _ (c : tie.After-shared-slice-known5) (settings : Settings) (side : ℕ) (cell-starts cell-ids : List ℕ) where
+module _ (c : tie.After-shared_slice_known-5-1) (settings : Settings) (side : ℕ) (cell-starts cell-ids : List ℕ) where
   within : (found : Bool) → leb (end_of c * 3) (length (the_start c).args.triples.now) ≡ found → triples_within (lent c settings side cell-starts cell-ids) (the_start c).args.vertex ≡ found
   within found e = sym (triples_tested (lent c settings side cell-starts cell-ids) (the_start c).args.vertex) ∙ e
 
   -- the part is that of the vertex
-  are_triples : part_of c ≡ block_part 3 (the_start c).args.triangle-starts.now (the_start c).args.triples.now (the_start c).args.vertex
+  are_triples : part_of c ≡ block_part 3 (the_start c).args.triangle_starts.now (the_start c).args.triples.now (the_start c).args.vertex
   are_triples = triples_read (lent c settings side cell-starts cell-ids) (the_start c).args.vertex
 
-below : (c : tie.After-ids-below) (found : Bool) → c.ids_below_lem.result ≡ found
+below : (c : tie.After-ids_below) (found : Bool) → c.ids_below.result ≡ found
     → let k = c.before.before.before.before.before in ids_below (vertex_count (the_start k).args.positions.now) (part_of k) ≡ found
-below c found e = ap (λ (n : ℕ). ids_below n (part_of c.before.before.before.before.before)) (sym c.before.vertex-count.ensures) ∙ sym c.ids_below_lem.ensures ∙ e
+below c found e = ap (λ (n : ℕ). ids_below n (part_of c.before.before.before.before.before)) (sym c.vertex_count.ensures) ∙ sym c.ids_below.ensures ∙ e
 
-add_next : tie.Need-overflow-add-next
+add_next : tie.Need-overflow_add-next
 add_next c = search rules
 
-mul_start : tie.Need-overflow-mul-start
+mul_start : tie.Need-offset_bounds-triangle_starts-vertex
 mul_start c = search rules
 
-shared_slice_read_start : tie.Need-shared-slice-read-start
+shared_slice_read_start : tie.Need-bounds-triangle_starts-vertex
 shared_slice_read_start c = search rules
 
-cast_start : tie.Need-overflow-cast-start
-cast_start c = omega (arith, c.shared-slice-known4.given c.before.before.before.before.args.vertex)
+cast_start : tie.Need-overflow_cast-start
+cast_start c = omega (arith, c.shared_slice_known-4-1.given c.args.vertex)
 
-mul_end : tie.Need-overflow-mul-end
+mul_end : tie.Need-offset_bounds-triangle_starts-next
 mul_end c = search rules
 
-shared_slice_read_end : tie.Need-shared-slice-read-end
+shared_slice_read_end : tie.Need-bounds-triangle_starts-next
 shared_slice_read_end c = search rules
 
-cast_end : tie.Need-overflow-cast-end
+cast_end : tie.Need-overflow_cast-end
 cast_end c = omega (arith, small c)
 
 at_requires : tie.Need-at-requires
 at_requires c κs = search rules
 
-returns : tie.Need-returns
+returns : tie.Need-returns-then-end-start
 unfolding located_at triangle_rows
 returns c = λ settings side cell-starts cell-ids.
     let a = (the_start c.before.before).args in
-    rw (c.at.ensures, sym (falling_tested a.triangle-starts.now a.vertex) ∙ lt-leb _ _ c.before.if1.true, add-one a.vertex)
+    rw (c.at.ensures, sym (falling_tested a.triangle_starts.now a.vertex) ∙ lt-leb _ _ c.if-end-start.true, add-one a.vertex)
 
-mul_if2 : tie.Need-overflow-mul-if2
+mul_if2 : tie.Need-overflow_mul-end
 mul_if2 c = omega (arith, small c.before)
 
 new_requires : tie.Need-new-requires
 new_requires c κs = search rules
 
-returns_2 : tie.Need-returns-2
+returns_2 : tie.Need-returns-then-end-triples
 unfolding located_at triangle_rows
 returns_2 c = λ settings side cell-starts cell-ids.
     let e = c.before.before in
-    rw (c.new.ensures, ascends e, within e.before settings side cell-starts cell-ids false (lt-leb _ _ c.before.if2.true))
+    rw (c.new.ensures, ascends e, within e.before settings side cell-starts cell-ids false (lt-leb _ _ c.if-end-triples.true))
 
-mul_first : tie.Need-overflow-mul-first
+mul_first : tie.Need-overflow_mul-first
 mul_first c = omega (arith, inside c, small c.before.before)
 
-mul_last : tie.Need-overflow-mul-last
+mul_last : tie.Need-overflow_mul-last
 mul_last c = omega (arith, inside c, small c.before.before)
 
-mul_part : tie.Need-overflow-mul-part
+mul_part : tie.Need-offset_bounds-triples-first
 mul_part c = omega (arith, inside c, small c.before.before)
 
-sub_part : tie.Need-overflow-sub-part
+sub_part : tie.Need-slice_bounds-part-count
 sub_part c = omega (arith, inside c, small c.before.before)
 
-part_part_start : tie.Need-slice-bounds-part-start
+part_part_start : tie.Need-slice_bounds-part-start
 part_part_start c = omega (arith, inside c, small c.before.before)
 
-part_part_end : tie.Need-slice-bounds-part-end
+part_part_end : tie.Need-slice_bounds-part-end
 part_part_end c = omega (arith, inside c, small c.before.before)
 
-vertex_count_requires : tie.Need-vertex-count-requires
+vertex_count_requires : tie.Need-vertex_count-requires
 vertex_count_requires c κs = search rules
 
-ids_below_requires : tie.Need-ids-below-requires
+ids_below_requires : tie.Need-ids_below-requires
 ids_below_requires c κs = search rules
 
-kept_triangle_requires : tie.Need-kept-triangle-requires
-kept_triangle_requires c κs = below c.before true c.if3.true
+kept_triangle_requires : tie.Need-kept_triangle-requires
+kept_triangle_requires c κs = below c.before true c.if-ids_below.true
 
-new_requires_2 : tie.Need-new-requires-2
+new_requires_2 : tie.Need-new-requires-else-ids_below
 new_requires_2 c κs = search rules
 
-returns_3 : tie.Need-returns-3
+returns_3 : tie.Need-returns-then-ids_below
 unfolding located_at triangle_rows triples_at
 returns_3 c = λ settings side cell-starts cell-ids.
     let p = c.before.before in
     let e = p.before.before.before in
     let k = e.before.before in
-    rw (ascends e.before, within k settings side cell-starts cell-ids true (le-leb _ _ e.if2.false), ← (are_triples k settings side cell-starts cell-ids), below p true c.before.if3.true) c.kept-triangle.ensures
+    rw (ascends e.before, within k settings side cell-starts cell-ids true (le-leb _ _ e.if-end-triples.false), ← (are_triples k settings side cell-starts cell-ids), below p true c.if-ids_below.true) c.kept_triangle.ensures
 
-returns_4 : tie.Need-returns-4
+returns_4 : tie.Need-returns-else-ids_below
 unfolding located_at triangle_rows
 returns_4 c = λ settings side cell-starts cell-ids.
     let p = c.before.before in
     let e = p.before.before.before in
     let k = e.before.before in
-    rw (c.new2.ensures, ascends e.before, within k settings side cell-starts cell-ids true (le-leb _ _ e.if2.false), ← (are_triples k settings side cell-starts cell-ids), below p false c.before.if3.false)
+    rw (c.new-else-ids_below.ensures, ascends e.before, within k settings side cell-starts cell-ids true (le-leb _ _ e.if-end-triples.false), ← (are_triples k settings side cell-starts cell-ids), below p false c.if-ids_below.false)
 
 pub locate_at_spec : {M : Type 1} → statement M
 locate_at_spec =

@@ -12,141 +12,141 @@ use Rattle.grid_query.proofs.Parts.{length_taken, falling_tested, part_tested, c
 use Rattle.grid_query.proofs.nearest_of_cell.Statement.{statement}
 use Rattle.grid_query.proofs.nearest_of_cell.Tie as tie
 
-abbrev the_start : tie.After-shared-slice-known5 → tie.Start
+abbrev the_start : tie.After-shared_slice_known-5-1 → tie.Start
 the_start c = c.before.before.before.before.before
 
-abbrev first_of : tie.After-shared-slice-known5 → ℕ
-first_of c = get_or (the_start c).args.cell-starts.now (the_start c).args.cell 0
+abbrev first_of : tie.After-shared_slice_known-5-1 → ℕ
+first_of c = get_or (the_start c).args.cell_starts.now (the_start c).args.cell 0
 
-abbrev end_of : tie.After-shared-slice-known5 → ℕ
-end_of c = get_or (the_start c).args.cell-starts.now ((the_start c).args.cell + 1) 0
+abbrev end_of : tie.After-shared_slice_known-5-1 → ℕ
+end_of c = get_or (the_start c).args.cell_starts.now ((the_start c).args.cell + 1) 0
 
-abbrev part_of : tie.After-shared-slice-known5 → List ℕ
-part_of c = take (end_of c - first_of c) (drop (first_of c) (the_start c).args.cell-ids.now)
+abbrev part_of : tie.After-shared_slice_known-5-1 → List ℕ
+part_of c = take (end_of c - first_of c) (drop (first_of c) (the_start c).args.cell_ids.now)
 
-abbrev lent : tie.After-shared-slice-known5 → Settings → ℕ → List ℕ → List ℕ → Grid
-lent c settings side triangle-starts triples = lent_grid settings side (the_start c).args.cell-starts.now (the_start c).args.cell-ids.now triangle-starts triples
+abbrev lent : tie.After-shared_slice_known-5-1 → Settings → ℕ → List ℕ → List ℕ → Grid
+lent c settings side triangle-starts triples = lent_grid settings side (the_start c).args.cell_starts.now (the_start c).args.cell_ids.now triangle-starts triples
 
 -- a part that rows 18 and 3 let pass
-inside : (c : tie.Else2) → let k = c.before.before in (first_of k ≤ end_of k) × (end_of k ≤ length (the_start k).args.cell-ids.now)
-inside c = (c.before.if1.false, c.if2.false)
+inside : (c : tie.Else-end-cell_ids) → let k = c.before.before in (first_of k ≤ end_of k) × (end_of k ≤ length (the_start k).args.cell_ids.now)
+inside c = (c.if-end-start.false, c.if-end-cell_ids.false)
 
-ascends : (c : tie.Else1) → let a = (the_start c.before).args in not_falling a.cell-starts.now a.cell ≡ true
-ascends c = let a = (the_start c.before).args in sym (falling_tested a.cell-starts.now a.cell) ∙ le-leb _ _ c.if1.false
+ascends : (c : tie.Else-end-start) → let a = (the_start c.before).args in not_falling a.cell_starts.now a.cell ≡ true
+ascends c = let a = (the_start c.before).args in sym (falling_tested a.cell_starts.now a.cell) ∙ le-leb _ _ c.if-end-start.false
 
-within : (c : tie.Else2) → let a = (the_start c.before.before).args in part_within a.cell-starts.now (length a.cell-ids.now) a.cell ≡ true
-within c = let a = (the_start c.before.before).args in sym (part_tested a.cell-starts.now a.cell (length a.cell-ids.now)) ∙ le-leb _ _ c.if2.false
+within : (c : tie.Else-end-cell_ids) → let a = (the_start c.before.before).args in part_within a.cell_starts.now (length a.cell_ids.now) a.cell ≡ true
+within c = let a = (the_start c.before.before).args in sym (part_tested a.cell_starts.now a.cell (length a.cell_ids.now)) ∙ le-leb _ _ c.if-end-cell_ids.false
 
-part_length : (c : tie.Else2) → let k = c.before.before in length (part_of k) ≡ end_of k - first_of k
-part_length c = let k = c.before.before in length_taken (first_of k) (end_of k) (the_start k).args.cell-ids.now (inside c).1
+part_length : (c : tie.Else-end-cell_ids) → let k = c.before.before in length (part_of k) ≡ end_of k - first_of k
+part_length c = let k = c.before.before in length_taken (first_of k) (end_of k) (the_start k).args.cell_ids.now (inside c).1
 
 -- the part is the cell's candidates
-are_candidates : (c : tie.After-shared-slice-known5) (settings : Settings) (side : ℕ) (triangle-starts triples : List ℕ) → part_of c ≡ candidates (lent c settings side triangle-starts triples) (the_start c).args.cell
+are_candidates : (c : tie.After-shared_slice_known-5-1) (settings : Settings) (side : ℕ) (triangle-starts triples : List ℕ) → part_of c ≡ candidates (lent c settings side triangle-starts triples) (the_start c).args.cell
 are_candidates c settings side triangle-starts triples = candidates_read (lent c settings side triangle-starts triples) (the_start c).args.cell
 
-add_next : tie.Need-overflow-add-next
+add_next : tie.Need-overflow_add-next
 add_next c = search rules
 
-mul_start : tie.Need-overflow-mul-start
+mul_start : tie.Need-offset_bounds-cell_starts-cell
 mul_start c = search rules
 
-shared_slice_read_start : tie.Need-shared-slice-read-start
+shared_slice_read_start : tie.Need-bounds-cell_starts-cell
 shared_slice_read_start c = search rules
 
-cast_start : tie.Need-overflow-cast-start
-cast_start c = omega (arith, c.shared-slice-known4.given c.before.before.before.before.args.cell)
+cast_start : tie.Need-overflow_cast-start
+cast_start c = omega (arith, c.shared_slice_known-4-1.given c.args.cell)
 
-mul_end : tie.Need-overflow-mul-end
+mul_end : tie.Need-offset_bounds-cell_starts-next
 mul_end c = search rules
 
-shared_slice_read_end : tie.Need-shared-slice-read-end
+shared_slice_read_end : tie.Need-bounds-cell_starts-next
 shared_slice_read_end c = search rules
 
-cast_end : tie.Need-overflow-cast-end
-cast_end c = omega (arith, c.shared-slice-known5.given ((the_start c).args.cell + 1))
+cast_end : tie.Need-overflow_cast-end
+cast_end c = omega (arith, c.shared_slice_known-5-1.given ((the_start c).args.cell + 1))
 
 at_requires : tie.Need-at-requires
 at_requires c κs = search rules
 
-returns : tie.Need-returns
+returns : tie.Need-returns-then-end-start
 unfolding nearest_of_cell
 returns c = λ settings side triangle-starts triples.
     let a = (the_start c.before.before).args in
-    rw (c.at.ensures, sym (falling_tested a.cell-starts.now a.cell) ∙ lt-leb _ _ c.before.if1.true, add-one a.cell)
+    rw (c.at.ensures, sym (falling_tested a.cell_starts.now a.cell) ∙ lt-leb _ _ c.if-end-start.true, add-one a.cell)
 
 new_requires : tie.Need-new-requires
 new_requires c κs = search rules
 
-returns_2 : tie.Need-returns-2
+returns_2 : tie.Need-returns-then-end-cell_ids
 unfolding nearest_of_cell
 returns_2 c = λ settings side triangle-starts triples.
     let e = c.before.before in
     let a = (the_start e.before).args in
-    rw (c.new.ensures, ascends e, sym (part_tested a.cell-starts.now a.cell (length a.cell-ids.now)) ∙ lt-leb _ _ c.before.if2.true)
+    rw (c.new.ensures, ascends e, sym (part_tested a.cell_starts.now a.cell (length a.cell_ids.now)) ∙ lt-leb _ _ c.if-end-cell_ids.true)
 
-new_requires_2 : tie.Need-new-requires-2
+new_requires_2 : tie.Need-new-requires-then-start-end
 new_requires_2 c κs = search rules
 
-returns_3 : tie.Need-returns-3
+returns_3 : tie.Need-returns-then-start-end
 unfolding nearest_of_cell
 returns_3 c = λ settings side triangle-starts triples.
     let e = c.before.before in
     let k = e.before.before in
-    let none : length (part_of k) ≤ 0 = (let same = c.before.if3.true in omega (arith, part_length e)) in
-    rw (c.new2.ensures, ascends e.before, within e, ← (are_candidates k settings side triangle-starts triples), le-ltb 0 (length (part_of k)) none)
+    let none : length (part_of k) ≤ 0 = (let same = c.if-start-end.true in omega (arith, part_length e)) in
+    rw (c.new-then-start-end.ensures, ascends e.before, within e, ← (are_candidates k settings side triangle-starts triples), le-ltb 0 (length (part_of k)) none)
 
-mul_part : tie.Need-overflow-mul-part
+mul_part : tie.Need-offset_bounds-cell_ids-start
 mul_part c = omega (arith, inside c.before)
 
-part_part_start : tie.Need-slice-bounds-part-start
+part_part_start : tie.Need-slice_bounds-part-start
 part_part_start c = omega (arith, inside c.before)
 
-part_part_end : tie.Need-slice-bounds-part-end
+part_part_end : tie.Need-slice_bounds-part-end
 part_part_end c = omega (arith, inside c.before)
 
-vertex_count_requires : tie.Need-vertex-count-requires
+vertex_count_requires : tie.Need-vertex_count-requires
 vertex_count_requires c κs = search rules
 
-ids_below_requires : tie.Need-ids-below-requires
+ids_below_requires : tie.Need-ids_below-requires
 ids_below_requires c κs = search rules
 
 -- what is tested of the part where it is not empty
-some : (c : tie.After-part) → 0 < length (part_of c.before.before.before.before)
+some : (c : tie.After-part-1) → 0 < length (part_of c.before.before.before.before)
 some c =
     let e = c.before.before in
     let inside_part = inside e in
     let so-long = part_length e in
-    omega (arith, c.before.if3.false)
+    omega (arith, c.if-start-end.false)
 
-below : (c : tie.After-ids-below) (found : Bool) → c.ids_below_lem.result ≡ found
+below : (c : tie.After-ids_below) (found : Bool) → c.ids_below.result ≡ found
     → let k = c.before.before.before.before.before.before in ids_below (vertex_count (the_start k).args.positions.now) (part_of k) ≡ found
-below c found e = ap (λ (n : ℕ). ids_below n (part_of c.before.before.before.before.before.before)) (sym c.before.vertex-count.ensures) ∙ sym c.ids_below_lem.ensures ∙ e
+below c found e = ap (λ (n : ℕ). ids_below n (part_of c.before.before.before.before.before.before)) (sym c.vertex_count.ensures) ∙ sym c.ids_below.ensures ∙ e
 
-nearest_in_cell_requires : tie.Need-nearest-in-cell-requires
+nearest_in_cell_requires : tie.Need-nearest_in_cell-requires
 nearest_in_cell_requires c κs =
     let p = c.before.before.before in
     let e = p.before.before in
     let k = e.before.before in
-    (some p, (omega (arith, part_length e, k.shared-slice-known5.given ((the_start k).args.cell + 1)), below c.before true c.if4.true))
+    (some p, (omega (arith, part_length e, k.shared_slice_known-5-1.given ((the_start k).args.cell + 1)), below c.before true c.if-ids_below.true))
 
-new_requires_3 : tie.Need-new-requires-3
+new_requires_3 : tie.Need-new-requires-else-ids_below
 new_requires_3 c κs = search rules
 
-returns_4 : tie.Need-returns-4
+returns_4 : tie.Need-returns-then-ids_below
 unfolding nearest_of_cell
 returns_4 c = λ settings side triangle-starts triples.
     let p = c.before.before.before.before in
     let e = p.before.before in
     let k = e.before.before in
-    rw (← (are_candidates k settings side triangle-starts triples), ascends e.before, within e, lt-ltb 0 (length (part_of k)) (some p), below c.before.before true c.before.if4.true) c.nearest-in-cell.ensures
+    rw (← (are_candidates k settings side triangle-starts triples), ascends e.before, within e, lt-ltb 0 (length (part_of k)) (some p), below c.before.before true c.if-ids_below.true) c.nearest_in_cell.ensures
 
-returns_5 : tie.Need-returns-5
+returns_5 : tie.Need-returns-else-ids_below
 unfolding nearest_of_cell
 returns_5 c = λ settings side triangle-starts triples.
     let p = c.before.before.before.before in
     let e = p.before.before in
     let k = e.before.before in
-    rw (c.new3.ensures, ← (are_candidates k settings side triangle-starts triples), ascends e.before, within e, lt-ltb 0 (length (part_of k)) (some p), below c.before.before false c.before.if4.false)
+    rw (c.new-else-ids_below.ensures, ← (are_candidates k settings side triangle-starts triples), ascends e.before, within e, lt-ltb 0 (length (part_of k)) (some p), below c.before.before false c.if-ids_below.false)
 
 pub nearest_of_cell_spec : {M : Type 1} → statement M
 nearest_of_cell_spec =

@@ -11,14 +11,14 @@ position_requires c κs = search rules
 minus_requires : tie.Need-minus-requires
 minus_requires c κs = search rules
 
-norm_squared_requires : tie.Need-norm-squared-requires
+norm_squared_requires : tie.Need-norm_squared-requires
 norm_squared_requires c κs = search rules
 
 returns : tie.Need-returns
 unfolding squared_distance
 returns c =
-    let direction = c.before.before.before.before.args.direction in
-    c.norm-squared.ensures ∙ ap squared_length (c.before.minus.ensures ∙ ap (vector_difference direction) c.before.before.position.ensures)
+    let direction = c.args.direction in
+    c.norm_squared.ensures ∙ ap squared_length (c.minus.ensures ∙ ap (vector_difference direction) c.position.ensures)
 
 pub squared_distance_spec : {M : Type 1} → statement M
 squared_distance_spec =

@@ -3,25 +3,25 @@ use Rattle.std.proofs.Common.{rules}
 use Rattle.grid_query.proofs.triangle_weights.Statement.{statement}
 use Rattle.grid_query.proofs.triangle_weights.Tie as tie
 
-cast_position : tie.Need-overflow-cast-position
+cast_position : tie.Need-overflow_cast-triple
 cast_position c = search rules
 
 position_requires : tie.Need-position-requires
 position_requires c κs = search rules
 
-cast_position_2 : tie.Need-overflow-cast-position-2
+cast_position_2 : tie.Need-overflow_cast-triple-2
 cast_position_2 c = search rules
 
 position_requires_2 : tie.Need-position-requires-2
 position_requires_2 c κs = search rules
 
-cast_position_3 : tie.Need-overflow-cast-position-3
+cast_position_3 : tie.Need-overflow_cast-triple-3
 cast_position_3 c = search rules
 
 position_requires_3 : tie.Need-position-requires-3
 position_requires_3 c κs = search rules
 
-projected_barycentric_requires : tie.Need-projected-barycentric-requires
+projected_barycentric_requires : tie.Need-projected_barycentric-requires
 projected_barycentric_requires c κs = search rules
 
 returns : tie.Need-returns
