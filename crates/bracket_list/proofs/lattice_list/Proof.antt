@@ -7,32 +7,28 @@ use Rattle.bracket_list.proofs.Request.{requested_few, listing_refused, listing_
 use Rattle.bracket_list.proofs.lattice_list.Statement.{statement}
 use Rattle.bracket_list.proofs.lattice_list.Tie as tie
 
-requested_requires : tie.Need-requested-requires
+requested_requires : tie.Need-requested-frequency-requires
 requested_requires c κs = search rules
 
-slice_aggregate_put_text : tie.Need-slice-aggregate-put-text
-slice_aggregate_put_text c = search rules
-
-put_text_requires : tie.Need-put-text-requires
+put_text_requires : tie.Need-put_text-requires
 put_text_requires c κs = search rules
 
-returns : tie.Need-returns
-returns c = let t = c.before.before.before in written_as (sym (listing_refused _ t.before.requested.ensures t.if1.true)) c.put-text.ensures
+returns : tie.Need-returns-then-frequency-eq0
+returns c = let t = c.before.before.before in written_as (sym (listing_refused _ t.requested-frequency.ensures t.if-frequency-eq0.true)) c.put_text.ensures
 
-list_lattice_requires : tie.Need-list-lattice-requires
+list_lattice_requires : tie.Need-list_lattice-requires
 list_lattice_requires c κs =
     let e = c.before in
-    (omega (arith, e.if1.false), requested_few _ e.before.requested.ensures)
+    (omega (arith, e.if-frequency-eq0.false), requested_few _ e.requested-frequency.ensures)
 
-returns_2 : tie.Need-returns-2
-returns_2 c = let e = c.before.before in written_as (sym (listing_asked _ e.before.requested.ensures e.if1.false)) c.list-lattice.ensures
+returns_2 : tie.Need-returns
+returns_2 c = let e = c.before.before in written_as (sym (listing_asked _ e.requested-frequency.ensures e.if-frequency-eq0.false)) c.list_lattice.ensures
 
 pub lattice_list_spec : {M : Type 1} → statement M
 lattice_list_spec =
     tie.close
     (tie.spec
     requested_requires
-    slice_aggregate_put_text
     put_text_requires
     returns
     list_lattice_requires

@@ -7,54 +7,54 @@ use Rattle.bracket_list.proofs.Geometry.{square_few, Filled, geometry_left}
 use Rattle.bracket_list.proofs.list_lattice.Statement.{statement}
 use Rattle.bracket_list.proofs.list_lattice.Tie as tie
 
-left : (c : tie.After-lattice-geometry) → Filled c.before.before.before.before.before.before.args.frequency c.lattice-geometry.new.1.1.0 c.lattice-geometry.new.1.1.1.0
+left : (c : tie.After-lattice_geometry) → Filled c.args.frequency c.lattice_geometry.new.starts c.lattice_geometry.new.entries
 left c =
     let s = c.before.before.before.before.before.before in
-    geometry_left s.args.frequency s.requires.0 s.requires.1 _ _ (omega arith) (omega arith) (omega arith) (omega arith) c.lattice-geometry.ensures
+    geometry_left s.args.frequency s.requires.0 s.requires.1 _ _ (omega arith) (omega arith) (omega arith) (omega arith) c.lattice_geometry.ensures
 
-slice_aggregate_lattice_geometry : tie.Need-slice-aggregate-lattice-geometry
+slice_aggregate_lattice_geometry : tie.Need-slice_bounds-lattice_geometry-end
 slice_aggregate_lattice_geometry c = search rules
 
-slice_aggregate_lattice_geometry_2 : tie.Need-slice-aggregate-lattice-geometry-2
+slice_aggregate_lattice_geometry_2 : tie.Need-slice_bounds-lattice_geometry-end-2
 slice_aggregate_lattice_geometry_2 c = search rules
 
-slice_aggregate_lattice_geometry_3 : tie.Need-slice-aggregate-lattice-geometry-3
+slice_aggregate_lattice_geometry_3 : tie.Need-slice_bounds-lattice_geometry-end-3
 slice_aggregate_lattice_geometry_3 c = search rules
 
-slice_aggregate_lattice_geometry_4 : tie.Need-slice-aggregate-lattice-geometry-4
+slice_aggregate_lattice_geometry_4 : tie.Need-slice_bounds-lattice_geometry-end-4
 slice_aggregate_lattice_geometry_4 c = search rules
 
-lattice_geometry_requires : tie.Need-lattice-geometry-requires
+lattice_geometry_requires : tie.Need-lattice_geometry-requires
 lattice_geometry_requires c κs = search rules
 
-mul_starts_end : tie.Need-overflow-mul-starts-end
+mul_starts_end : tie.Need-overflow_mul-starts_end
 mul_starts_end c = let s = c.before.before.before.before.before.before.before.before.before.before in omega (arith, square_few s.args.frequency s.requires.0 s.requires.1)
 
-mul_starts_end_2 : tie.Need-overflow-mul-starts-end-2
+mul_starts_end_2 : tie.Need-overflow_mul-starts_end-2
 mul_starts_end_2 c = let s = c.before.before.before.before.before.before.before.before.before.before in omega (arith, square_few s.args.frequency s.requires.0 s.requires.1)
 
-add_starts_end : tie.Need-overflow-add-starts-end
+add_starts_end : tie.Need-overflow_add-starts_end
 add_starts_end c = let s = c.before.before.before.before.before.before.before.before.before.before in omega (arith, square_few s.args.frequency s.requires.0 s.requires.1)
 
-mul_entries_end : tie.Need-overflow-mul-entries-end
+mul_entries_end : tie.Need-overflow_mul-entries_end
 mul_entries_end c = let s = c.before.before.before.before.before.before.before.before.before.before in omega (arith, square_few s.args.frequency s.requires.0 s.requires.1)
 
-mul_entries_end_2 : tie.Need-overflow-mul-entries-end-2
+mul_entries_end_2 : tie.Need-overflow_mul-entries_end-2
 mul_entries_end_2 c = let s = c.before.before.before.before.before.before.before.before.before.before in omega (arith, square_few s.args.frequency s.requires.0 s.requires.1)
 
-array_share_prefix_starts : tie.Need-array-share-prefix-starts
+array_share_prefix_starts : tie.Need-slice_bounds-starts-end
 array_share_prefix_starts c = omega (arith, (left c.before.before.before.before).starts_room)
 
-slice_aggregate_list_mesh : tie.Need-slice-aggregate-list-mesh
+slice_aggregate_list_mesh : tie.Need-slice_bounds-list_mesh-end
 slice_aggregate_list_mesh c = sym (length-take-le _ _ (left c.before.before.before.before.before).starts_room)
 
-array_share_prefix_entries : tie.Need-array-share-prefix-entries
+array_share_prefix_entries : tie.Need-slice_bounds-entries-end
 array_share_prefix_entries c = omega (arith, (left c.before.before.before.before.before).entries_room)
 
-slice_aggregate_list_mesh_2 : tie.Need-slice-aggregate-list-mesh-2
+slice_aggregate_list_mesh_2 : tie.Need-slice_bounds-list_mesh-end-2
 slice_aggregate_list_mesh_2 c = sym (length-take-le _ _ (left c.before.before.before.before.before.before).entries_room)
 
-list_mesh_requires : tie.Need-list-mesh-requires
+list_mesh_requires : tie.Need-list_mesh-requires
 list_mesh_requires c κs =
     let g = c.before.before.before.before.before.before.before in
     let s = g.before.before.before.before.before.before in

@@ -8,36 +8,36 @@ use Rattle.bracket_list.proofs.Spaces.{separated_first, separated_later}
 use Rattle.bracket_list.proofs.put_separated.Statement.{statement}
 use Rattle.bracket_list.proofs.put_separated.Tie as tie
 
-put_decimal_requires : tie.Need-put-decimal-requires
-put_decimal_requires c κs = let s = c.before.before.before in omega (arith, ap length (separated_first s.args.i s.args.n c.before.if1.true))
+put_decimal_requires : tie.Need-put_decimal-requires
+put_decimal_requires c κs = let s = c.before.before.before in omega (arith, ap length (separated_first s.args.i s.args.n c.if-i-eq0.true))
 
-same_length : tie.Need-same-length
+same_length : tie.Need-shape_of-output-then-i-eq0
 same_length c = search rules
 
-returns : tie.Need-returns
+returns : tie.Need-returns-then-i-eq0
 returns c =
     let p = c.before.before in
     let s = p.before.before.before.before in
-    written_as (sym (separated_first s.args.i s.args.n p.before.before.if1.true)) p.put-decimal.ensures
+    written_as (sym (separated_first s.args.i s.args.n p.if-i-eq0.true)) p.put_decimal.ensures
 
-put_byte_requires : tie.Need-put-byte-requires
-put_byte_requires c κs = let s = c.before.before.before in omega (arith, ap length (separated_later s.args.i s.args.n c.before.if1.false))
+put_byte_requires : tie.Need-put_byte-digits-requires
+put_byte_requires c κs = let s = c.before.before.before in omega (arith, ap length (separated_later s.args.i s.args.n c.if-i-eq0.false))
 
-put_decimal_requires_2 : tie.Need-put-decimal-requires-2
+put_decimal_requires_2 : tie.Need-put_decimal-requires-2
 put_decimal_requires_2 c κs =
     let p = c.before.before.before in
     let s = p.before.before.before.before in
-    omega (arith, ap length (separated_later s.args.i s.args.n p.before.before.if1.false), p.put_byte.ensures.behind, p.put_byte.ensures.size)
+    omega (arith, ap length (separated_later s.args.i s.args.n p.if-i-eq0.false), p.put_byte-digits.ensures.behind, p.put_byte-digits.ensures.size)
 
-same_length_2 : tie.Need-same-length-2
+same_length_2 : tie.Need-shape_of-output
 same_length_2 c = search rules
 
-returns_2 : tie.Need-returns-2
+returns_2 : tie.Need-returns
 returns_2 c =
     let q = c.before.before in
     let p = q.before.before.before.before in
     let s = p.before.before.before.before in
-    written_as (sym (separated_later s.args.i s.args.n p.before.before.if1.false)) (written_then p.put_byte.ensures q.put-decimal2.ensures)
+    written_as (sym (separated_later s.args.i s.args.n p.if-i-eq0.false)) (written_then p.put_byte-digits.ensures q.put_decimal-2.ensures)
 
 pub put_separated_spec : {M : Type 1} → statement M
 put_separated_spec =

@@ -13,52 +13,52 @@ use Rattle.bracket_list.proofs.Spaces.{spaced_suc, spaced_room}
 use Rattle.bracket_list.proofs.put_spaced_u16.Statement.{statement}
 use Rattle.bracket_list.proofs.put_spaced_u16.Tie as tie
 
-abbrev invariant_loop : tie.invariant_loop
+abbrev invariant_loop : tie.invariant-loop-i
 invariant_loop output₀ place numbers next₀ i₀ output next i = (i ≤ length numbers) × Written place (spaced (take i numbers)) output₀ next output
 
-abbrev decreases_loop : tie.decreases_loop
+abbrev decreases_loop : tie.decreases-loop-i
 decreases_loop output₀ place numbers next₀ i₀ output next i = length numbers - i
 
-loop_holds : tie.Need-loop-init invariant_loop decreases_loop
+loop_holds : tie.Need-loop-i-init invariant_loop decreases_loop
 unfolding spaced
 loop_holds c = (omega arith, written_none _ _ (omega arith))
 
-mul_put_separated : tie.Need-overflow-mul-put-separated invariant_loop decreases_loop
+mul_put_separated : tie.Need-offset_bounds-numbers-i invariant_loop decreases_loop
 mul_put_separated c = search rules
 
-shared_slice_read_put_separated : tie.Need-shared-slice-read-put-separated invariant_loop decreases_loop
+shared_slice_read_put_separated : tie.Need-bounds-numbers-i invariant_loop decreases_loop
 shared_slice_read_put_separated c = search rules
 
-cast_put_separated : tie.Need-overflow-cast-put-separated invariant_loop decreases_loop
-cast_put_separated c = omega (arith, c.shared-slice-known2.given c.before.before.before.loop.i)
+cast_put_separated : tie.Need-overflow_cast-numbers invariant_loop decreases_loop
+cast_put_separated c = omega (arith, c.shared_slice_known-in-loop-i-1.given c.loop-i.i)
 
-put_separated_requires : tie.Need-put-separated-requires invariant_loop decreases_loop
+put_separated_requires : tie.Need-put_separated-next-requires invariant_loop decreases_loop
 put_separated_requires c κs =
     let l = c.before.before.before in
     let s = l.before.before.before in
-    omega (arith, s.requires, spaced_room s.args.numbers.now l.loop.i c.before.before.loop-test.true, l.loop.invariant.1.behind, l.loop.invariant.1.size)
+    omega (arith, s.requires, spaced_room s.args.numbers.now l.loop-i.i c.loop-i-test.true, l.loop-i.invariant.1.behind, l.loop-i.invariant.1.size)
 
-add_i : tie.Need-overflow-add-i invariant_loop decreases_loop
+add_i : tie.Need-overflow_add-i invariant_loop decreases_loop
 add_i c = search rules
 
-loop_less : tie.Need-loop-smaller invariant_loop decreases_loop
+loop_less : tie.Need-loop-i-smaller invariant_loop decreases_loop
 loop_less c = search rules
 
-loop_again : tie.Need-loop-preserved invariant_loop decreases_loop
+loop_again : tie.Need-loop-i-preserved invariant_loop decreases_loop
 loop_again c =
     let q = c.before.before in
     let l = q.before.before.before.before in
-    let numbers = l.before.before.before.args.numbers.now in (
+    let numbers = l.args.numbers.now in (
       omega arith,
-      written_as (sym (spaced_suc numbers l.loop.i q.before.before.before.loop-test.true) ∙ ap (λ (k : ℕ). spaced (take k numbers)) (sym (add-one l.loop.i)))
-          (written_then l.loop.invariant.1 q.put-separated.ensures),
+      written_as (sym (spaced_suc numbers l.loop-i.i q.loop-i-test.true) ∙ ap (λ (k : ℕ). spaced (take k numbers)) (sym (add-one l.loop-i.i)))
+          (written_then l.loop-i.invariant.1 q.put_separated-next.ensures),
     )
 
-same_length : tie.Need-same-length invariant_loop decreases_loop
+same_length : tie.Need-shape_of-output invariant_loop decreases_loop
 same_length c = search rules
 
 returns : tie.Need-returns invariant_loop decreases_loop
-returns c = written_as (ap spaced (take_all _ _ c.loop-test.false)) c.before.loop.invariant.1
+returns c = written_as (ap spaced (take_all _ _ c.loop-i-test.false)) c.loop-i.invariant.1
 
 pub put_spaced_u16_spec : {M : Type 1} → statement M
 put_spaced_u16_spec =

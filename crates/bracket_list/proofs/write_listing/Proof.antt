@@ -19,22 +19,22 @@ room : (s : tie.Start)
     → length (head_line s.args.frequency s.args.count (length s.args.entries.now)) + length (vertex_lines s.args.count (lists s)) + length (walk_line s.args.queue.now) ≤ length s.args.output.now
 room s = omega (arith, s.requires.1.1, listing_size s.args.frequency s.args.count (length s.args.entries.now) (lists s) s.args.queue.now)
 
-cast_put_head : tie.Need-overflow-cast-put-head
+cast_put_head : tie.Need-overflow_cast-count
 cast_put_head c = search rules
 
-cast_put_head_2 : tie.Need-overflow-cast-put-head-2
-cast_put_head_2 c = let s = c.before.before.before.before.before in omega (arith, s.requires.0.last, c.before.before.before.shared-slice-known.given s.args.count)
+cast_put_head_2 : tie.Need-overflow_cast-entries
+cast_put_head_2 c = let s = c.before.before.before.before.before in omega (arith, s.requires.0.last, c.shared_slice_known-1.given s.args.count)
 
-put_head_requires : tie.Need-put-head-requires
+put_head_requires : tie.Need-put_head-lines-requires
 put_head_requires c κs = let s = c.before.before.before.before.before in omega (arith, room s)
 
-put_vertices_requires : tie.Need-put-vertices-requires
+put_vertices_requires : tie.Need-put_vertices-walk-requires
 put_vertices_requires c κs = let s = c.before.before.before.before.before.before.before.before.before in (s.requires.0, (s.requires.1.0, omega (arith, room s)))
 
-put_walk_requires : tie.Need-put-walk-requires
+put_walk_requires : tie.Need-put_walk-requires
 put_walk_requires c κs = let s = c.before.before.before.before.before.before.before.before.before.before.before.before.before in omega (arith, room s)
 
-same_length : tie.Need-same-length
+same_length : tie.Need-shape_of-output
 same_length c = search rules
 
 returns : tie.Need-returns
@@ -44,7 +44,7 @@ returns c =
     let h = v.before.before.before.before in
     let s = h.before.before.before.before.before.before in
     written_as (listing_pieces s.args.frequency s.args.count (length s.args.entries.now) (lists s) s.args.queue.now)
-    (written_then (written_then h.put-head.ensures v.put-vertices.ensures) w.put-walk.ensures)
+    (written_then (written_then h.put_head-lines.ensures v.put_vertices-walk.ensures) w.put_walk.ensures)
 
 pub write_listing_spec : {M : Type 1} → statement M
 write_listing_spec =
