@@ -13,10 +13,10 @@ use Rattle.c_api.specs.Code.{conversion_code, conversion_answer}
 use Rattle.c_api.proofs.arithmetic.koshirga_to_i64.Statement.{statement}
 use Rattle.c_api.proofs.arithmetic.koshirga_to_i64.Tie as tie
 
-to_i64_requires : tie.Need-to-i64-requires
+to_i64_requires : tie.Need-to_i64-converted-requires
 to_i64_requires c κs = search rules
 
-conversion_code_requires : tie.Need-conversion-code-requires
+conversion_code_requires : tie.Need-conversion_code-requires
 conversion_code_requires c κs = search rules
 
 answer_is : (x : Float) (r : Converted) (code : ℕ) → r ≡ converted_of x → code ≡ conversion_code r.how → ◌≡◌ {A = ConversionAnswer} (record { whole = to_z w64 (of_z w64 r.whole); how = code }) (conversion_answer (converted_of x))
@@ -26,7 +26,7 @@ answer_is x r code e k = λ i. record { whole = whole_of x r e i; how = (k ∙ a
 returns : tie.Need-returns
 returns c =
     let t = c.before.before in
-    answer_is t.before.args.x t.to-i64.result c.before.conversion-code.result t.to-i64.ensures c.before.conversion-code.ensures
+    answer_is t.args.x t.to_i64-converted.result c.conversion_code.result t.to_i64-converted.ensures c.conversion_code.ensures
 
 pub koshirga_to_i64_spec : {M : Type 1} → statement M
 koshirga_to_i64_spec = tie.close (tie.spec to_i64_requires conversion_code_requires returns)

@@ -3,26 +3,26 @@ use borrow.Author.Rules.{rules}
 use Rattle.c_api.proofs.arithmetic.koshirga_total_cmp.Statement.{statement}
 use Rattle.c_api.proofs.arithmetic.koshirga_total_cmp.Tie as tie
 
-total_cmp_requires : tie.Need-total-cmp-requires
+total_cmp_requires : tie.Need-total_cmp-ordering-requires
 total_cmp_requires c κs = search rules
 
-enum_told : tie.Need-enum-told
+enum_told : tie.Need-enum_told-1
 enum_told c = search rules
 
-enum_told_2 : tie.Need-enum-told-2
+enum_told_2 : tie.Need-enum_told-in-Equal
 enum_told_2 c = search rules
 
-enum_told_3 : tie.Need-enum-told-3
+enum_told_3 : tie.Need-enum_told-in-Greater
 enum_told_3 c = search rules
 
-returns : tie.Need-returns
-returns c = rw (← c.before.before.total_cmp.ensures, c.enum_told.given.1)
+returns : tie.Need-returns-in-Less
+returns c = rw (← c.total_cmp-ordering.ensures, c.in-Less.is)
 
-returns_2 : tie.Need-returns-2
-returns_2 c = rw (← c.before.before.total_cmp.ensures, c.enum-told2.given.1)
+returns_2 : tie.Need-returns-in-Equal
+returns_2 c = rw (← c.total_cmp-ordering.ensures, c.in-Equal.is)
 
-returns_3 : tie.Need-returns-3
-returns_3 c = rw (← c.before.before.total_cmp.ensures, c.enum-told3.given.1)
+returns_3 : tie.Need-returns-in-Greater
+returns_3 c = rw (← c.total_cmp-ordering.ensures, c.in-Greater.is)
 
 pub koshirga_total_cmp_spec : {M : Type 1} → statement M
 koshirga_total_cmp_spec =

@@ -3,29 +3,29 @@ use borrow.Author.Rules.{rules}
 use Rattle.c_api.proofs.grids.koshirga_grid_locate.Statement.{statement}
 use Rattle.c_api.proofs.grids.koshirga_grid_locate.Tie as tie
 
-locate_requires : tie.Need-locate-requires
+locate_requires : tie.Need-locate-located-requires
 locate_requires c κs = search rules
 
-enum_known_located : tie.Need-enum-known-located
+enum_known_located : tie.Need-enum_known-located
 enum_known_located c = search rules
 
-enum_known_located_2 : tie.Need-enum-known-located-2
+enum_known_located_2 : tie.Need-enum_known-located-in-At-1
 enum_known_located_2 c = search rules
 
-cast_t17 : tie.Need-overflow-cast-t17
+cast_t17 : tie.Need-overflow_cast-result
 cast_t17 c = search rules
 
-cast_t18 : tie.Need-overflow-cast-t18
+cast_t18 : tie.Need-overflow_cast-result-in-At
 cast_t18 c = search rules
 
-cast_t19 : tie.Need-overflow-cast-t19
+cast_t19 : tie.Need-overflow_cast-result-in-At-2
 cast_t19 c = search rules
 
-returns : tie.Need-returns
-returns c = rw (← c.before.before.before.locate.ensures, c.before.located.given.1)
+returns : tie.Need-returns-in-Refused
+returns c = rw (← c.locate-located.ensures, c.in-Refused.is)
 
-returns_2 : tie.Need-returns-2
-returns_2 c = let m = c.before.before.before.before in rw (← m.before.before.locate.ensures, m.located2.given.1)
+returns_2 : tie.Need-returns-in-At
+returns_2 c = let m = c in rw (← m.locate-located.ensures, m.in-At.is)
 
 pub koshirga_grid_locate_spec : {M : Type 1} → statement M
 koshirga_grid_locate_spec =

@@ -3,23 +3,23 @@ use borrow.Author.Rules.{rules}
 use Rattle.c_api.proofs.grids.koshirga_grid_nearest.Statement.{statement}
 use Rattle.c_api.proofs.grids.koshirga_grid_nearest.Tie as tie
 
-find_nearest_vertex_requires : tie.Need-find-nearest-vertex-requires
+find_nearest_vertex_requires : tie.Need-find_nearest_vertex-nearest-requires
 find_nearest_vertex_requires c κs = search rules
 
-enum_known_nearest : tie.Need-enum-known-nearest
+enum_known_nearest : tie.Need-enum_known-nearest
 enum_known_nearest c = search rules
 
-enum_known_nearest_2 : tie.Need-enum-known-nearest-2
+enum_known_nearest_2 : tie.Need-enum_known-nearest-in-Found-1
 enum_known_nearest_2 c = search rules
 
-cast_t16 : tie.Need-overflow-cast-t16
+cast_t16 : tie.Need-overflow_cast-result
 cast_t16 c = search rules
 
-returns : tie.Need-returns
-returns c = λ triples. rw (← c.before.before.before.find-nearest-vertex.ensures triples, c.before.nearest.given.1)
+returns : tie.Need-returns-in-Refused
+returns c = λ triples. rw (← c.find_nearest_vertex-nearest.ensures triples, c.in-Refused.is)
 
-returns_2 : tie.Need-returns-2
-returns_2 c = λ triples. rw (← c.before.before.before.find-nearest-vertex.ensures triples, c.before.nearest2.given.1)
+returns_2 : tie.Need-returns-in-Found
+returns_2 c = λ triples. rw (← c.find_nearest_vertex-nearest.ensures triples, c.in-Found.is)
 
 pub koshirga_grid_nearest_spec : {M : Type 1} → statement M
 koshirga_grid_nearest_spec =

@@ -3,20 +3,20 @@ use borrow.Author.Rules.{rules}
 use Rattle.c_api.proofs.meshes.koshirga_mark_ascending.Statement.{statement}
 use Rattle.c_api.proofs.meshes.koshirga_mark_ascending.Tie as tie
 
-mark_ascending_requires : tie.Need-mark-ascending-requires
+mark_ascending_requires : tie.Need-mark_ascending-verdict-requires
 mark_ascending_requires c κs = search rules
 
-enum_known_verdict : tie.Need-enum-known-verdict
+enum_known_verdict : tie.Need-enum_known-verdict
 enum_known_verdict c = search rules
 
-enum_told : tie.Need-enum-told
+enum_told : tie.Need-enum_told-1
 enum_told c = search rules
 
-returns : tie.Need-returns
-returns c = rw (← c.before.before.before.mark-ascending.ensures, c.before.verdict.given.1)
+returns : tie.Need-returns-in-Refused
+returns c = rw (← c.mark_ascending-verdict.ensures, c.in-Refused.is)
 
-returns_2 : tie.Need-returns-2
-returns_2 c = rw (← c.before.before.mark-ascending.ensures, c.enum_told.given.1)
+returns_2 : tie.Need-returns-in-Passed
+returns_2 c = rw (← c.mark_ascending-verdict.ensures, c.in-Passed.is)
 
 pub koshirga_mark_ascending_spec : {M : Type 1} → statement M
 koshirga_mark_ascending_spec =
