@@ -1,5 +1,5 @@
 -- Laws of the builder: the lengths of a grid's lists are the totals that the counting passes find. Assumes nothing.
-use Rattle.std.proofs.Common.{◌≡◌, ℕ, zero, suc, ◌+◌, ◌*◌, true, false, ◌&&◌, leb, List, ◌++◌, length, sym, refl, ap, ◌∙◌}
+use Rattle.std.proofs.Common.{◌≡◌, ℕ, zero, suc, ◌*◌, true, false, ◌&&◌, leb, List, ◌++◌, length, sym, refl, ap, ◌∙◌}
 use mathlib.Core.List.{flatten}
 use Rattle.sequences.specs.Tabulate.{overwrite}
 use Rattle.sequences.specs.Starts.{start_of, starts_of, concatenate}

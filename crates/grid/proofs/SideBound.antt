@@ -1,6 +1,6 @@
 -- Bounds of the side of a grid, for every count from 1 to 65,536: from 2 to 420 for every factor that row 19 lets pass, and to 126 for 1.2. Assumes nothing.
 use Rattle.std.proofs.Common.{◌≡◌, ℕ, ◌*◌, ◌^◌, ◌<◌, ◌≤◌, Bool, true, false, T, pos, negsuc, sym, refl, ◌∙◌, subst, mul-le-mul_right, mul_comm, arith, lt→ltb}
-use lib.Ieee.{Float, nan, inf, fin, binary64, low, up, down, lt, le, round, mul, div, of_int, of_bits}
+use lib.Ieee.{Float, nan, inf, fin, binary64, up, down, lt, le, round, mul, div, of_int, of_bits}
 use lib.Ieee.Bits.{is_true}
 use lib.Ieee.Exact.{HasValue}
 use lib.Ieee.Fits.{down_pos, mul-fits}

@@ -1,5 +1,5 @@
 -- Laws of ids as a program that goes through the points in order meets them: a first appearance has the number of those before it. Assumes nothing.
-use Rattle.std.proofs.Common.{◌≡◌, ℕ, suc, ◌+◌, ◌-◌, ◌<◌, Bool, true, false, cond, List, [], ◌∷◌, ◌++◌, length, get_or, take, drop, sym, refl, ap, ◌∙◌, length-append, take-append-drop, drop-cons, take-suc}
+use Rattle.std.proofs.Common.{◌≡◌, ℕ, suc, ◌+◌, ◌<◌, Bool, true, false, cond, List, [], ◌∷◌, ◌++◌, length, get_or, take, drop, sym, refl, ap, ◌∙◌, length-append, take-append-drop, drop-cons, take-suc}
 use lib.Seq.{take-length}
 use Rattle.sequences.specs.Filter.{filter}
 use Rattle.sequences.proofs.Tabulate.{get_d_member, member_get_d}

@@ -4,7 +4,7 @@
 -- The inverse: `inverse_unique`; its loop: `inverting_none`, `inverting_step`, `inverting_all`.
 -- Lists of ids renumbered: `relabelled_at`, `relabelled_nondecreasing`, `relabelled_total`, `relabelled_compose`.
 -- A moved list: read by `moved_blocks_at` (and `moved_at`), recognised by `moved_blocks_unique`, repeated by `moved_blocks_compose`.
-use Prim.Native.Nat.{ℕ, zero, suc, ◌+◌, ◌-◌, ◌*◌, ◌≤◌, ◌<◌}
+use Prim.Native.Nat.{ℕ, zero, suc, ◌+◌, ◌*◌, ◌≤◌, ◌<◌}
 use native.Mathlib.Nat.{not-suc-le-zero}
 use native.Mathlib.Omega.{arith}
 use native.Mathlib.Decide.{ℕ_discrete, dec_lt}
