@@ -13,8 +13,7 @@ use crate::ConversionAnswer;
 use binary64::{Conversion, Ordering};
 
 // How the datum of the bit pattern x stands to that of y in the total order: -1, 0 or 1.
-#[unsafe(no_mangle)]
-pub extern "C" fn koshirga_total_cmp(x: u64, y: u64) -> i32
+pub fn koshirga_total_cmp(x: u64, y: u64) -> i32
     ensures { result ≡ ordering_code (total_ordering x y) }
 {
     let ordering = binary64::total_cmp(x, y);
@@ -25,29 +24,25 @@ pub extern "C" fn koshirga_total_cmp(x: u64, y: u64) -> i32
     }
 }
 
-#[unsafe(no_mangle)]
-pub extern "C" fn koshirga_rank(x: f64) -> u64
+pub fn koshirga_rank(x: f64) -> u64
     ensures { result ≡ rank_of x }
 {
     binary64::rank(x)
 }
 
-#[unsafe(no_mangle)]
-pub extern "C" fn koshirga_minimum_number(x: f64, y: f64) -> f64
+pub fn koshirga_minimum_number(x: f64, y: f64) -> f64
     ensures { result ≡ minimum_number x y }
 {
     binary64::minimum_number(x, y)
 }
 
-#[unsafe(no_mangle)]
-pub extern "C" fn koshirga_floor(x: f64) -> f64
+pub fn koshirga_floor(x: f64) -> f64
     ensures { result ≡ floor_of x }
 {
     binary64::floor(x)
 }
 
-#[unsafe(no_mangle)]
-pub extern "C" fn koshirga_ceil(x: f64) -> f64
+pub fn koshirga_ceil(x: f64) -> f64
     ensures { result ≡ ceil_of x }
 {
     binary64::ceil(x)
@@ -64,8 +59,7 @@ fn conversion_code(how: Conversion) -> u32
     }
 }
 
-#[unsafe(no_mangle)]
-pub extern "C" fn koshirga_to_i64(x: f64) -> ConversionAnswer
+pub fn koshirga_to_i64(x: f64) -> ConversionAnswer
     ensures { result ≡ conversion_answer (converted_of x) }
 {
     let converted = binary64::to_i64(x);
@@ -76,15 +70,13 @@ pub extern "C" fn koshirga_to_i64(x: f64) -> ConversionAnswer
     }
 }
 
-#[unsafe(no_mangle)]
-pub extern "C" fn koshirga_mul_add(a: f64, b: f64, c: f64) -> f64
+pub fn koshirga_mul_add(a: f64, b: f64, c: f64) -> f64
     ensures { result ≡ fused_multiply_add binary64 a b c }
 {
     fused::mul_add(a, b, c)
 }
 
-#[unsafe(no_mangle)]
-pub extern "C" fn koshirga_sqrt(x: f64) -> f64
+pub fn koshirga_sqrt(x: f64) -> f64
     ensures { result ≡ square_root binary64 x }
 {
     root::sqrt(x)

@@ -17,8 +17,7 @@ use grid_query::{Located, Nearest};
 use vector::Vector3;
 
 // The side of the grid that was written with this factor and margin. After a refusal all slices are as they were.
-#[unsafe(no_mangle)]
-pub extern "C" fn koshirga_build_grid(
+pub fn koshirga_build_grid(
     positions: &[f64],
     starts: &[u32],
     entries: &[u16],
@@ -57,8 +56,7 @@ pub extern "C" fn koshirga_build_grid(
     }
 }
 
-#[unsafe(no_mangle)]
-pub extern "C" fn koshirga_grid_nearest(
+pub fn koshirga_grid_nearest(
     positions: &[f64],
     factor: f64,
     margin: u32,
@@ -101,8 +99,7 @@ pub extern "C" fn koshirga_grid_nearest(
     }
 }
 
-#[unsafe(no_mangle)]
-pub extern "C" fn koshirga_grid_locate(
+pub fn koshirga_grid_locate(
     positions: &[f64],
     factor: f64,
     margin: u32,

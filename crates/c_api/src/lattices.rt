@@ -12,8 +12,7 @@ use master_face::Outside;
 use refusal::Verdict;
 use vector::Vector3;
 
-#[unsafe(no_mangle)]
-pub extern "C" fn koshirga_choose_face(
+pub fn koshirga_choose_face(
     i: bool,
     j: bool,
     k: bool,
@@ -42,12 +41,7 @@ pub extern "C" fn koshirga_choose_face(
     }
 }
 
-#[unsafe(no_mangle)]
-pub extern "C" fn koshirga_analytic_locate(
-    frequency: u32,
-    ids: &[u16],
-    direction: Vector3,
-) -> AnalyticAnswer
+pub fn koshirga_analytic_locate(frequency: u32, ids: &[u16], direction: Vector3) -> AnalyticAnswer
     ensures { result ≡ analytic_answer (analytic_locate frequency ids.now direction) }
 {
     let location = analytic::locate(frequency, ids, direction);
@@ -73,12 +67,7 @@ pub extern "C" fn koshirga_analytic_locate(
     }
 }
 
-#[unsafe(no_mangle)]
-pub extern "C" fn koshirga_analytic_nearest(
-    frequency: u32,
-    ids: &[u16],
-    direction: Vector3,
-) -> VertexAnswer
+pub fn koshirga_analytic_nearest(frequency: u32, ids: &[u16], direction: Vector3) -> VertexAnswer
     ensures { result ≡ vertex_answer (analytic_nearest frequency ids.now direction) }
 {
     let nearest = analytic::find_nearest_vertex(frequency, ids, direction);
@@ -95,8 +84,7 @@ pub extern "C" fn koshirga_analytic_nearest(
 }
 
 // 0 where the lattice was written, and otherwise the refusal's number: then all slices and the mark are as they were.
-#[unsafe(no_mangle)]
-pub extern "C" fn koshirga_lattice(
+pub fn koshirga_lattice(
     frequency: u32,
     positions: &mut [f64],
     starts: &mut [u32],

@@ -1,7 +1,6 @@
 // The engine for C and Rust: include/koshirga.h declares these functions.
 #![tactic(auto)]
 
-
 pub mod arithmetic;
 pub mod grids;
 pub mod lattices;

@@ -10,8 +10,7 @@ use crate::{VerdictAnswer, WalkAnswer};
 use refusal::Verdict;
 use walk::Walk;
 
-#[unsafe(no_mangle)]
-pub extern "C" fn koshirga_walk(
+pub fn koshirga_walk(
     positions: &[f64],
     starts: &[u32],
     entries: &[u16],
@@ -36,8 +35,7 @@ pub extern "C" fn koshirga_walk(
 }
 
 // After a refusal the mark is as it was.
-#[unsafe(no_mangle)]
-pub extern "C" fn koshirga_mark_ascending(
+pub fn koshirga_mark_ascending(
     positions: &[f64],
     starts: &[u32],
     entries: &[u16],
@@ -59,8 +57,7 @@ pub extern "C" fn koshirga_mark_ascending(
 }
 
 // After a refusal all slices and the mark are as they were.
-#[unsafe(no_mangle)]
-pub extern "C" fn koshirga_renumber(
+pub fn koshirga_renumber(
     positions: &mut [f64],
     starts: &mut [u32],
     entries: &mut [u16],

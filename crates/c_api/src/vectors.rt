@@ -8,72 +8,62 @@ ghost use Rattle.c_api.specs.Code.{direction_code};
 
 use vector::{Direction, Vector3, Weights};
 
-#[unsafe(no_mangle)]
-pub extern "C" fn koshirga_dot(a: Vector3, b: Vector3) -> f64
+pub fn koshirga_dot(a: Vector3, b: Vector3) -> f64
     ensures { result ≡ dot_product a b }
 {
     a.dot(b)
 }
 
-#[unsafe(no_mangle)]
-pub extern "C" fn koshirga_cross(a: Vector3, b: Vector3) -> Vector3
+pub fn koshirga_cross(a: Vector3, b: Vector3) -> Vector3
     ensures { result ≡ cross_product a b }
 {
     a.cross(b)
 }
 
-#[unsafe(no_mangle)]
-pub extern "C" fn koshirga_minus(a: Vector3, b: Vector3) -> Vector3
+pub fn koshirga_minus(a: Vector3, b: Vector3) -> Vector3
     ensures { result ≡ vector_difference a b }
 {
     a.minus(b)
 }
 
-#[unsafe(no_mangle)]
-pub extern "C" fn koshirga_plus(a: Vector3, b: Vector3) -> Vector3
+pub fn koshirga_plus(a: Vector3, b: Vector3) -> Vector3
     ensures { result ≡ vector_sum a b }
 {
     a.plus(b)
 }
 
-#[unsafe(no_mangle)]
-pub extern "C" fn koshirga_scale(v: Vector3, factor: f64) -> Vector3
+pub fn koshirga_scale(v: Vector3, factor: f64) -> Vector3
     ensures { result ≡ vector_multiple v factor }
 {
     v.scale(factor)
 }
 
-#[unsafe(no_mangle)]
-pub extern "C" fn koshirga_divide(v: Vector3, divisor: f64) -> Vector3
+pub fn koshirga_divide(v: Vector3, divisor: f64) -> Vector3
     ensures { result ≡ vector_quotient v divisor }
 {
     v.divide(divisor)
 }
 
-#[unsafe(no_mangle)]
-pub extern "C" fn koshirga_norm_squared(v: Vector3) -> f64
+pub fn koshirga_norm_squared(v: Vector3) -> f64
     ensures { result ≡ squared_length v }
 {
     v.norm_squared()
 }
 
-#[unsafe(no_mangle)]
-pub extern "C" fn koshirga_norm(v: Vector3) -> f64
+pub fn koshirga_norm(v: Vector3) -> f64
     ensures { result ≡ length_of v }
 {
     v.norm()
 }
 
-#[unsafe(no_mangle)]
-pub extern "C" fn koshirga_normalize(v: Vector3) -> Vector3
+pub fn koshirga_normalize(v: Vector3) -> Vector3
     ensures { result ≡ normalized v }
 {
     v.normalize()
 }
 
 // 0 where row 9 lets the direction pass, and otherwise 9.
-#[unsafe(no_mangle)]
-pub extern "C" fn koshirga_direction(v: Vector3) -> u32
+pub fn koshirga_direction(v: Vector3) -> u32
     ensures { result ≡ direction_code (direction_of v) }
 {
     let direction = Direction::new(v);
@@ -83,20 +73,13 @@ pub extern "C" fn koshirga_direction(v: Vector3) -> u32
     }
 }
 
-#[unsafe(no_mangle)]
-pub extern "C" fn koshirga_projected_barycentric(
-    p: Vector3,
-    a: Vector3,
-    b: Vector3,
-    c: Vector3,
-) -> Weights
+pub fn koshirga_projected_barycentric(p: Vector3, a: Vector3, b: Vector3, c: Vector3) -> Weights
     ensures { result ≡ projected_barycentric p a b c }
 {
     barycentric::projected_barycentric(p, a, b, c)
 }
 
-#[unsafe(no_mangle)]
-pub extern "C" fn koshirga_least_weight(weights: Weights) -> f64
+pub fn koshirga_least_weight(weights: Weights) -> f64
     ensures { result ≡ least_weight weights }
 {
     barycentric::least_weight(weights)
