@@ -1,4 +1,4 @@
-/* Koshirga: the calls of the archive libc_api.a, which `rt staticlib c_api` makes. A whole program
+/* Koshirga: the calls of the archive libc_api.a, which tools/archive makes. A whole program
  * that uses them is examples/balloon.c, and examples/exporter.c has a mesh from outside, refused
  * and then mended; docs/DATASHEET.md says what every call does, step by step. Five calls at the end
  * take mesh and grid as structs; they are compiled with the caller's code and call the archive's.

@@ -1,4 +1,4 @@
-//! Finds the proved archive and links it: `KOSHIRGA_ARCHIVE`, or else what `rt staticlib c_api`
+//! Finds the proved archive and links it: `KOSHIRGA_ARCHIVE`, or else the one that `tools/archive`
 //! makes at the repository's root. Without `rt` an archive that is already there is taken.
 
 use std::io::ErrorKind;
@@ -32,34 +32,46 @@ fn as_it_is(archive: PathBuf) -> PathBuf {
 
 /// The archive of the crates as they are now, which decide alone when it is made again.
 fn proved_archive(root: &Path) -> PathBuf {
-    for part in ["crates.txt", "crates"] {
-        println!("cargo:rerun-if-changed={}", root.join(part).display());
+    println!("cargo:rerun-if-changed={}", root.join("crates.txt").display());
+    println!("cargo:rerun-if-changed={}", root.join("tools/archive").display());
+    for part in sources(&root.join("crates")) {
+        println!("cargo:rerun-if-changed={}", part.display());
     }
     let archive = root.join("target/staticlib/libc_api.a");
-    match Command::new("rt")
-        .args(["staticlib", "c_api"])
-        .current_dir(root)
-        .output()
-    {
-        Ok(run) if run.status.success() => archive,
-        Ok(run) => fail(&format!(
-            "`rt staticlib c_api` failed at {}\n{}{}",
-            root.display(),
-            String::from_utf8_lossy(&run.stdout),
-            String::from_utf8_lossy(&run.stderr)
-        )),
+    match Command::new("rt").arg("version").output() {
+        Ok(_) => {}
         Err(e) if e.kind() == ErrorKind::NotFound && archive.is_file() => {
             println!(
                 "cargo:warning=no `rt` here: linking {} as it is",
                 archive.display()
             );
-            as_it_is(archive)
+            return as_it_is(archive);
         }
         Err(e) => fail(&format!(
-            "`rt staticlib c_api` can't be run: {e}\n\
-             set KOSHIRGA_ARCHIVE to an archive that it made elsewhere"
+            "`rt` can't be run: {e}\n\
+             set KOSHIRGA_ARCHIVE to an archive that `tools/archive` made elsewhere"
         )),
     }
+    match Command::new(root.join("tools/archive")).output() {
+        Ok(run) if run.status.success() => archive,
+        Ok(run) => fail(&format!(
+            "`tools/archive` failed at {}\n{}{}",
+            root.display(),
+            String::from_utf8_lossy(&run.stdout),
+            String::from_utf8_lossy(&run.stderr)
+        )),
+        Err(e) => fail(&format!("`tools/archive` can't be run: {e}")),
+    }
+}
+
+/// What the archive is made of: each crate's folder but for `out`, which a check writes.
+fn sources(crates: &Path) -> Vec<PathBuf> {
+    let folders = fs::read_dir(crates).unwrap_or_else(|e| fail(&format!("no crates: {e}")));
+    folders
+        .flatten()
+        .flat_map(|folder| ["src", "specs", "proofs"].map(|part| folder.path().join(part)))
+        .filter(|part| part.is_dir())
+        .collect()
 }
 
 fn fail(message: &str) -> ! {

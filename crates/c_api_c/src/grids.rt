@@ -28,7 +28,17 @@ pub extern "C" fn koshirga_build_grid(
 ) -> BuildAnswer
     ensures { build_left result (grid_slices cell_starts.new cell_ids.new triangle_starts.new triples.new) ≡ build_left_of (build_grid (mesh_of positions.now starts.now entries.now) (settings_with factor margin) (grid_slices cell_starts.old cell_ids.old triangle_starts.old triples.old)) }
 {
-    c_api::grids::koshirga_build_grid(positions, starts, entries, cell_starts, cell_ids, triangle_starts, triples, factor, margin)
+    c_api::grids::koshirga_build_grid(
+        positions,
+        starts,
+        entries,
+        cell_starts,
+        cell_ids,
+        triangle_starts,
+        triples,
+        factor,
+        margin,
+    )
 }
 
 #[unsafe(no_mangle)]
@@ -44,7 +54,16 @@ pub extern "C" fn koshirga_grid_nearest(
 ) -> NearestAnswer
     ensures { (triples : List ℕ) → result ≡ nearest_answer (grid_nearest (lent_grid (settings_with factor margin) side cell_starts.now cell_ids.now triangle_starts.now triples) positions.now direction) }
 {
-    c_api::grids::koshirga_grid_nearest(positions, factor, margin, side, cell_starts, cell_ids, triangle_starts, direction)
+    c_api::grids::koshirga_grid_nearest(
+        positions,
+        factor,
+        margin,
+        side,
+        cell_starts,
+        cell_ids,
+        triangle_starts,
+        direction,
+    )
 }
 
 #[unsafe(no_mangle)]
@@ -61,5 +80,15 @@ pub extern "C" fn koshirga_grid_locate(
 ) -> LocatedAnswer
     ensures { result ≡ located_answer (grid_locate (lent_grid (settings_with factor margin) side cell_starts.now cell_ids.now triangle_starts.now triples.now) positions.now direction) }
 {
-    c_api::grids::koshirga_grid_locate(positions, factor, margin, side, cell_starts, cell_ids, triangle_starts, triples, direction)
+    c_api::grids::koshirga_grid_locate(
+        positions,
+        factor,
+        margin,
+        side,
+        cell_starts,
+        cell_ids,
+        triangle_starts,
+        triples,
+        direction,
+    )
 }

@@ -24,14 +24,22 @@ pub extern "C" fn koshirga_choose_face(
 }
 
 #[unsafe(no_mangle)]
-pub extern "C" fn koshirga_analytic_locate(frequency: u32, ids: &[u16], direction: Vector3) -> AnalyticAnswer
+pub extern "C" fn koshirga_analytic_locate(
+    frequency: u32,
+    ids: &[u16],
+    direction: Vector3,
+) -> AnalyticAnswer
     ensures { result ≡ analytic_answer (analytic_locate frequency ids.now direction) }
 {
     c_api::lattices::koshirga_analytic_locate(frequency, ids, direction)
 }
 
 #[unsafe(no_mangle)]
-pub extern "C" fn koshirga_analytic_nearest(frequency: u32, ids: &[u16], direction: Vector3) -> VertexAnswer
+pub extern "C" fn koshirga_analytic_nearest(
+    frequency: u32,
+    ids: &[u16],
+    direction: Vector3,
+) -> VertexAnswer
     ensures { result ≡ vertex_answer (analytic_nearest frequency ids.now direction) }
 {
     c_api::lattices::koshirga_analytic_nearest(frequency, ids, direction)

@@ -80,7 +80,12 @@ pub extern "C" fn koshirga_direction(v: Vector3) -> u32
 }
 
 #[unsafe(no_mangle)]
-pub extern "C" fn koshirga_projected_barycentric(p: Vector3, a: Vector3, b: Vector3, c: Vector3) -> Weights
+pub extern "C" fn koshirga_projected_barycentric(
+    p: Vector3,
+    a: Vector3,
+    b: Vector3,
+    c: Vector3,
+) -> Weights
     ensures { result ≡ projected_barycentric p a b c }
 {
     c_api::vectors::koshirga_projected_barycentric(p, a, b, c)

@@ -1,4 +1,6 @@
 // Both locators on the lattice of a frequency.
+ghost use Rattle.std.specs.Prelude.{◌<◌, ◌^◌};
+
 use crate::lengths::{take_grid_lengths, take_mesh_lengths};
 use crate::places::{F64_BEFORE, FACTOR, MARGIN, U16_BEFORE, U32_BEFORE};
 use crate::report::Tally;
@@ -241,10 +243,16 @@ fn with_lattice(text: &[u8]) -> Tally {
     cut_locators_lattice(text, &mut positions, &mut starts, &mut entries, &mut ids)
 }
 
-fn replay_file(files: &impl Files, name: &str) -> Tally {
-    let mut text = [0u8; 524288];
+fn replay_file_in<const ROOM: usize>(files: &impl Files, name: &str) -> Tally
+    requires { ROOM < 2 ^ 32 }
+{
+    let mut text = [0u8; ROOM];
     let size = report::read_file(files, name, &mut text);
     with_lattice(&text[..size])
+}
+
+fn replay_file(files: &impl Files, name: &str) -> Tally {
+    replay_file_in::<524288>(files, name)
 }
 
 pub fn replay_locators(rt: &(impl Files + Print), name: &str) -> io::Result<()> {

@@ -2,6 +2,8 @@
 // records that are wrong on purpose, with those counted that were noticed.
 #![tactic(auto)]
 
+ghost use Rattle.std.specs.Prelude.{◌<◌, ◌^◌};
+
 mod arithmetic;
 mod lattices;
 mod lengths;
@@ -91,11 +93,22 @@ fn replay_lines(kind: Kind, text: &[u8]) -> Tally {
     tally
 }
 
-fn replay(rt: &(impl Files + Print), name: &str, number: u64) -> io::Result<()> {
-    let mut text = [0u8; 524288];
+// Room for a text is a parameter: a proof about a number this large would list as many bytes.
+fn replay_in<const ROOM: usize>(
+    rt: &(impl Files + Print),
+    name: &str,
+    number: u64,
+) -> io::Result<()>
+    requires { ROOM < 2 ^ 32 }
+{
+    let mut text = [0u8; ROOM];
     let size = report::read_file(rt, name, &mut text);
     let tally = replay_lines(kind_of(number), &text[..size]);
     report::print_differences(rt, name, tally)
+}
+
+fn replay(rt: &(impl Files + Print), name: &str, number: u64) -> io::Result<()> {
+    replay_in::<524288>(rt, name, number)
 }
 
 // ---- records that are wrong on purpose
