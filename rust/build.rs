@@ -1,5 +1,5 @@
-//! Finds the proved archive and links it: `KOSHIRGA_ARCHIVE`, or else what `tools/archive` makes.
-//! Without `rt` an archive that is already there is taken.
+//! Finds the proved archive and links it: `KOSHIRGA_ARCHIVE`, or else the one that `tools/archive`
+//! makes at the repository's root. Without `rt` an archive that is already there is taken.
 
 use std::io::ErrorKind;
 use std::path::{Path, PathBuf};
@@ -32,21 +32,10 @@ fn as_it_is(archive: PathBuf) -> PathBuf {
 
 /// The archive of the crates as they are now, which decide alone when it is made again.
 fn proved_archive(root: &Path) -> PathBuf {
-    println!(
-        "cargo:rerun-if-changed={}",
-        root.join("crates.txt").display()
-    );
-    for entry in fs::read_dir(root.join("crates"))
-        .into_iter()
-        .flatten()
-        .flatten()
-    {
-        for part in ["src", "specs", "proofs"] {
-            let part = entry.path().join(part);
-            if part.is_dir() {
-                println!("cargo:rerun-if-changed={}", part.display());
-            }
-        }
+    println!("cargo:rerun-if-changed={}", root.join("crates.txt").display());
+    println!("cargo:rerun-if-changed={}", root.join("tools/archive").display());
+    for part in sources(&root.join("crates")) {
+        println!("cargo:rerun-if-changed={}", part.display());
     }
     let archive = root.join("target/staticlib/libc_api.a");
     match Command::new("rt").arg("version").output() {
@@ -73,6 +62,16 @@ fn proved_archive(root: &Path) -> PathBuf {
         )),
         Err(e) => fail(&format!("`tools/archive` can't be run: {e}")),
     }
+}
+
+/// What the archive is made of: each crate's folder but for `out`, which a check writes.
+fn sources(crates: &Path) -> Vec<PathBuf> {
+    let folders = fs::read_dir(crates).unwrap_or_else(|e| fail(&format!("no crates: {e}")));
+    folders
+        .flatten()
+        .flat_map(|folder| ["src", "specs", "proofs"].map(|part| folder.path().join(part)))
+        .filter(|part| part.is_dir())
+        .collect()
 }
 
 fn fail(message: &str) -> ! {

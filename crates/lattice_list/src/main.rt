@@ -1,13 +1,14 @@
 // `lattice-list`: reads a request from standard input, and prints the lattice that it asks for, or that it is refused.
 #![tactic(auto)]
 
-use libc::{STDIN_FILENO, STDOUT_FILENO};
+use std::io;
+use std::io::Read;
 
-fn main() {
+fn main(rt: HostRuntime) -> io::Result<()> {
     // A request is twelve bytes: a thirteenth shows that there are more.
-    let mut input = [0u8; 13];
-    let size = io::read_full(STDIN_FILENO, &mut input);
+    let mut input = Vec::new(rt.alloc());
+    rt.stdin().take(13).read_to_end(&mut input)?;
     let mut output = [0u8; 16384];
-    let printed = bracket_list::lattice_list(&input[..size], &mut output);
-    io::write_all(STDOUT_FILENO, &output[..printed]);
+    let printed = bracket_list::lattice_list(&input, &mut output);
+    rt.write_all(&output[..printed])
 }

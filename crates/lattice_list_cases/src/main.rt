@@ -1,7 +1,8 @@
 // What `lattice-list` prints, held to the listings of the Rust source for each frequency, in data/, and to a refusal for malformed requests.
 #![tactic(auto)]
 
-use libc::STDOUT_FILENO;
+use std::rt::Files;
+use std::{fs, io};
 
 // Whether an input prints a text.
 fn prints(input: &[u8], expected: &[u8]) -> bool {
@@ -11,74 +12,70 @@ fn prints(input: &[u8], expected: &[u8]) -> bool {
 }
 
 // One line a case: its name, and whether it prints what is expected.
-fn report(name: &[u8], input: &[u8], expected: &[u8]) {
-    io::write_all(STDOUT_FILENO, name);
+fn report(rt: &impl Print, name: &str, input: &[u8], expected: &[u8]) -> io::Result<()> {
     if prints(input, expected) {
-        io::write_all(STDOUT_FILENO, b": as expected\n");
+        println!(rt; "{name}: as expected")
     } else {
-        io::write_all(STDOUT_FILENO, b": differs\n");
+        println!(rt; "{name}: differs")
     }
 }
 
 // An input that prints the text of a file.
-fn listed(name: &[u8], input: &[u8]) {
-    let mut expected = [0u8; 16384];
-    let file = os::open_read(name);
-    let size = io::read_full(file, &mut expected);
-    libc::close(file);
-    report(name, input, &expected[..size]);
+fn listed(rt: &(impl Files + Print + Alloc), name: &str, input: &[u8]) -> io::Result<()> {
+    let expected = fs::read(rt, name)?;
+    report(rt, name, input, &expected)
 }
 
-fn refused(name: &[u8], input: &[u8]) {
-    report(name, input, b"(refused 1)\n");
+fn refused(rt: &impl Print, name: &str, input: &[u8]) -> io::Result<()> {
+    report(rt, name, input, b"(refused 1)\n")
 }
 
-fn frequencies() {
-    listed(b"frequency_1", b"(lattice 1)\n");
-    listed(b"frequency_2", b"(lattice 2)\n");
-    listed(b"frequency_3", b"(lattice 3)\n");
-    listed(b"frequency_4", b"(lattice 4)\n");
+fn frequencies(rt: &(impl Files + Print + Alloc)) -> io::Result<()> {
+    listed(rt, "frequency_1", b"(lattice 1)\n")?;
+    listed(rt, "frequency_2", b"(lattice 2)\n")?;
+    listed(rt, "frequency_3", b"(lattice 3)\n")?;
+    listed(rt, "frequency_4", b"(lattice 4)\n")
 }
 
-fn numbers() {
-    refused(b"frequency 0", b"(lattice 0)\n");
-    refused(b"frequency 5", b"(lattice 5)\n");
-    refused(b"frequency 9", b"(lattice 9)\n");
-    refused(b"frequency 80", b"(lattice 80)\n");
-    refused(b"leading zero", b"(lattice 01)\n");
-    refused(b"minus", b"(lattice -1)\n");
-    refused(b"plus", b"(lattice +1)\n");
-    refused(b"a letter", b"(lattice a)\n");
-    refused(b"no number", b"(lattice )\n");
+fn numbers(rt: &impl Print) -> io::Result<()> {
+    refused(rt, "frequency 0", b"(lattice 0)\n")?;
+    refused(rt, "frequency 5", b"(lattice 5)\n")?;
+    refused(rt, "frequency 9", b"(lattice 9)\n")?;
+    refused(rt, "frequency 80", b"(lattice 80)\n")?;
+    refused(rt, "leading zero", b"(lattice 01)\n")?;
+    refused(rt, "minus", b"(lattice -1)\n")?;
+    refused(rt, "plus", b"(lattice +1)\n")?;
+    refused(rt, "a letter", b"(lattice a)\n")?;
+    refused(rt, "no number", b"(lattice )\n")
 }
 
-fn words() {
-    refused(b"upper case", b"(Lattice 1)\n");
-    refused(b"another word", b"(latrice 1)\n");
-    refused(b"no word", b"(1)\n");
-    refused(b"no brackets", b"lattice 1\n");
-    refused(b"other brackets", b"[lattice 1]\n");
-    refused(b"no space", b"(lattice1)\n");
-    refused(b"two spaces", b"(lattice  1)\n");
-    refused(b"a tab", b"(lattice\t1)\n");
-    refused(b"space before", b" (lattice 1)\n");
+fn words(rt: &impl Print) -> io::Result<()> {
+    refused(rt, "upper case", b"(Lattice 1)\n")?;
+    refused(rt, "another word", b"(latrice 1)\n")?;
+    refused(rt, "no word", b"(1)\n")?;
+    refused(rt, "no brackets", b"lattice 1\n")?;
+    refused(rt, "other brackets", b"[lattice 1]\n")?;
+    refused(rt, "no space", b"(lattice1)\n")?;
+    refused(rt, "two spaces", b"(lattice  1)\n")?;
+    refused(rt, "a tab", b"(lattice\t1)\n")?;
+    refused(rt, "space before", b" (lattice 1)\n")
 }
 
-fn ends() {
-    refused(b"nothing", b"");
-    refused(b"a line feed alone", b"\n");
-    refused(b"early end", b"(lattice 1");
-    refused(b"no line feed", b"(lattice 1)");
-    refused(b"carriage return", b"(lattice 1)\r\n");
-    refused(b"space behind", b"(lattice 1) \n");
-    refused(b"a byte behind", b"(lattice 1)\n ");
-    refused(b"two requests", b"(lattice 1)\n(lattice 1)\n");
-    refused(b"a zero byte", b"(lattice 1)\x00");
+fn ends(rt: &impl Print) -> io::Result<()> {
+    refused(rt, "nothing", b"")?;
+    refused(rt, "a line feed alone", b"\n")?;
+    refused(rt, "early end", b"(lattice 1")?;
+    refused(rt, "no line feed", b"(lattice 1)")?;
+    refused(rt, "carriage return", b"(lattice 1)\r\n")?;
+    refused(rt, "space behind", b"(lattice 1) \n")?;
+    refused(rt, "a byte behind", b"(lattice 1)\n ")?;
+    refused(rt, "two requests", b"(lattice 1)\n(lattice 1)\n")?;
+    refused(rt, "a zero byte", b"(lattice 1)\x00")
 }
 
-fn main() {
-    frequencies();
-    numbers();
-    words();
-    ends();
+fn main(rt: HostRuntime) -> io::Result<()> {
+    frequencies(&rt)?;
+    numbers(&rt)?;
+    words(&rt)?;
+    ends(&rt)
 }

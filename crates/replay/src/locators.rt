@@ -1,10 +1,14 @@
 // Both locators on the lattice of a frequency.
+ghost use Rattle.std.specs.Prelude.{◌<◌, ◌^◌};
+
 use crate::lengths::{take_grid_lengths, take_mesh_lengths};
 use crate::places::{F64_BEFORE, FACTOR, MARGIN, U16_BEFORE, U32_BEFORE};
 use crate::report::Tally;
 use crate::{meshes, queries, report};
 use c_api::BuildAnswer;
 use records::Cursor;
+use std::io;
+use std::rt::Files;
 
 // A direction; the answers of both locators.
 fn direction(
@@ -239,19 +243,25 @@ fn with_lattice(text: &[u8]) -> Tally {
     cut_locators_lattice(text, &mut positions, &mut starts, &mut entries, &mut ids)
 }
 
-fn replay_file(name: &[u8]) -> Tally {
-    let mut text = [0u8; 524288];
-    let size = report::read_file(name, &mut text);
+fn replay_file_in<const ROOM: usize>(files: &impl Files, name: &str) -> Tally
+    requires { ROOM < 2 ^ 32 }
+{
+    let mut text = [0u8; ROOM];
+    let size = report::read_file(files, name, &mut text);
     with_lattice(&text[..size])
 }
 
-pub fn replay_locators(name: &[u8]) {
-    let tally = replay_file(name);
-    report::print_differences(name, tally);
+fn replay_file(files: &impl Files, name: &str) -> Tally {
+    replay_file_in::<524288>(files, name)
+}
+
+pub fn replay_locators(rt: &(impl Files + Print), name: &str) -> io::Result<()> {
+    let tally = replay_file(rt, name);
+    report::print_differences(rt, name, tally)
 }
 
 // A file whose records are all wrong on purpose.
-pub fn replay_wrong_locators(name: &[u8]) {
-    let tally = replay_file(name);
-    report::print_noticed(name, tally);
+pub fn replay_wrong_locators(rt: &(impl Files + Print), name: &str) -> io::Result<()> {
+    let tally = replay_file(rt, name);
+    report::print_noticed(rt, name, tally)
 }

@@ -2,6 +2,8 @@
 // records that are wrong on purpose, with those counted that were noticed.
 #![tactic(auto)]
 
+ghost use Rattle.std.specs.Prelude.{◌<◌, ◌^◌};
+
 mod arithmetic;
 mod lattices;
 mod lengths;
@@ -15,6 +17,8 @@ mod report;
 
 use records::Cursor;
 use report::Tally;
+use std::io;
+use std::rt::Files;
 
 // What the records of a file hold: README.md says which words.
 #[derive(Clone, Copy)]
@@ -89,11 +93,22 @@ fn replay_lines(kind: Kind, text: &[u8]) -> Tally {
     tally
 }
 
-fn replay(name: &[u8], number: u64) {
-    let mut text = [0u8; 524288];
-    let size = report::read_file(name, &mut text);
+// Room for a text is a parameter: a proof about a number this large would list as many bytes.
+fn replay_in<const ROOM: usize>(
+    rt: &(impl Files + Print),
+    name: &str,
+    number: u64,
+) -> io::Result<()>
+    requires { ROOM < 2 ^ 32 }
+{
+    let mut text = [0u8; ROOM];
+    let size = report::read_file(rt, name, &mut text);
     let tally = replay_lines(kind_of(number), &text[..size]);
-    report::print_differences(name, tally);
+    report::print_differences(rt, name, tally)
+}
+
+fn replay(rt: &(impl Files + Print), name: &str, number: u64) -> io::Result<()> {
+    replay_in::<524288>(rt, name, number)
 }
 
 // ---- records that are wrong on purpose
@@ -123,32 +138,32 @@ fn replay_numbered_lines(text: &[u8]) -> Tally {
 }
 
 // A small buffer: the compiler may put it into main's frame, which lies under every other call's.
-fn replay_wrong(name: &[u8]) {
+fn replay_wrong(rt: &(impl Files + Print), name: &str) -> io::Result<()> {
     let mut text = [0u8; 16384];
-    let size = report::read_file(name, &mut text);
+    let size = report::read_file(rt, name, &mut text);
     let tally = replay_numbered_lines(&text[..size]);
-    report::print_noticed(name, tally);
+    report::print_noticed(rt, name, tally)
 }
 
-fn main() {
-    replay(b"mul_add", 0);
-    replay(b"sqrt", 1);
-    replay(b"integral", 2);
-    replay(b"total_order", 3);
-    replay(b"face_choices", 4);
-    replay(b"analytic_queries", 5);
-    replay(b"lattices", 6);
-    replay(b"lattice_hashes", 7);
-    replay(b"grid_hashes", 8);
-    replay(b"meshes", 9);
-    replay(b"renumberings", 10);
-    replay(b"grid_queries", 11);
-    replay(b"minimum_number", 12);
-    locators::replay_locators(b"locators_1");
-    locators::replay_locators(b"locators_2");
-    locators::replay_locators(b"locators_3");
-    locators::replay_locators(b"locators_7");
-    locators::replay_locators(b"locators_20");
-    replay_wrong(b"wrong_records");
-    locators::replay_wrong_locators(b"wrong_locators");
+fn main(rt: HostRuntime) -> io::Result<()> {
+    replay(&rt, "mul_add", 0)?;
+    replay(&rt, "sqrt", 1)?;
+    replay(&rt, "integral", 2)?;
+    replay(&rt, "total_order", 3)?;
+    replay(&rt, "face_choices", 4)?;
+    replay(&rt, "analytic_queries", 5)?;
+    replay(&rt, "lattices", 6)?;
+    replay(&rt, "lattice_hashes", 7)?;
+    replay(&rt, "grid_hashes", 8)?;
+    replay(&rt, "meshes", 9)?;
+    replay(&rt, "renumberings", 10)?;
+    replay(&rt, "grid_queries", 11)?;
+    replay(&rt, "minimum_number", 12)?;
+    locators::replay_locators(&rt, "locators_1")?;
+    locators::replay_locators(&rt, "locators_2")?;
+    locators::replay_locators(&rt, "locators_3")?;
+    locators::replay_locators(&rt, "locators_7")?;
+    locators::replay_locators(&rt, "locators_20")?;
+    replay_wrong(&rt, "wrong_records")?;
+    locators::replay_wrong_locators(&rt, "wrong_locators")
 }

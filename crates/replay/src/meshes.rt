@@ -1,4 +1,6 @@
 // Any meshes, also such as some row refuses: the call that reads whether the lists ascend, walk and grid.
+ghost use Rattle.std.specs.Prelude.{◌<◌, ◌^◌};
+
 use crate::lengths::{take_grid_lengths, take_mesh_lengths};
 use crate::marks;
 use crate::places::{F64_BEFORE, FACTOR, MARGIN, U16_BEFORE, U32_BEFORE};
@@ -166,18 +168,21 @@ fn cut_grid(
     )
 }
 
-pub fn grid(
+// Room for the triples is a parameter: a proof about a number this large would list as many places.
+fn grid_in<const ROOM: usize>(
     text: &[u8],
     cursor: Cursor,
     hashed: bool,
     positions: &[f64],
     starts: &[u32],
     entries: &[u16],
-) -> Cursor {
+) -> Cursor
+    requires { ROOM < 2 ^ 32 }
+{
     let mut cell_starts = [U32_BEFORE; 51895];
     let mut cell_ids = [U16_BEFORE; 326488];
     let mut triangle_starts = [U32_BEFORE; 36003];
-    let mut triples = [U16_BEFORE; 648000];
+    let mut triples = [U16_BEFORE; ROOM];
     cut_grid(
         text,
         cursor,
@@ -190,6 +195,17 @@ pub fn grid(
         &mut triangle_starts,
         &mut triples,
     )
+}
+
+pub fn grid(
+    text: &[u8],
+    cursor: Cursor,
+    hashed: bool,
+    positions: &[f64],
+    starts: &[u32],
+    entries: &[u16],
+) -> Cursor {
+    grid_in::<648000>(text, cursor, hashed, positions, starts, entries)
 }
 
 // The mark before the call that reads whether the lists ascend; its answer, and the mark after it.

@@ -1,8 +1,11 @@
 // Counts of records, and the line that a file gets.
-ghost use Rattle.io.specs.Counts.{IsPrefixLen};
+ghost use Rattle.std.specs.Prelude.{◌≤◌, ◌≡◌, length, take};
 
-use libc::STDOUT_FILENO;
 use records::Cursor;
+use std::fs::File;
+use std::io;
+use std::io::Read;
+use std::rt::Files;
 
 // The first record that differs and the first that does not are remembered by their numbers, which are their lines'; 0 where there is none.
 #[derive(Clone, Copy)]
@@ -50,40 +53,54 @@ impl Tally {
     }
 }
 
-// How many bytes were read. A file that is missing has none, and one that is too long is cut, which leaves its last record incomplete.
-pub fn read_file(name: &[u8], text: &mut [u8]) -> usize
-    ensures { IsPrefixLen result text.new }
+// Reads until the text is full, the input ends or a read fails; how many bytes were read.
+fn read_full<R: Read + Drop>(mut input: R, text: &mut [u8]) -> usize
+    ensures in_bounds { result ≤ length text.new }
+    ensures prefix { result ≡ length (take result text.new) }
 {
-    let file = os::open_read(name);
-    let size = io::read_full(file, text);
-    libc::close(file);
-    size
-}
-
-fn print_counts(name: &[u8], tally: Tally, noun: &[u8]) {
-    io::write_all(STDOUT_FILENO, name);
-    io::write_all(STDOUT_FILENO, b": ");
-    io::print_decimal(STDOUT_FILENO, tally.records);
-    io::write_all(STDOUT_FILENO, b" records, ");
-    io::print_decimal(STDOUT_FILENO, tally.differences);
-    io::write_all(STDOUT_FILENO, noun);
-}
-
-fn print_first(words: &[u8], line: u64) {
-    if line > 0 {
-        io::write_all(STDOUT_FILENO, words);
-        io::print_decimal(STDOUT_FILENO, line);
+    let mut done = 0;
+    while done < text.len() {
+        match input.read(&mut text[done..]) {
+            Ok(0) => break,
+            Ok(n) => done += n,
+            Err(_) => break,
+        }
     }
-    io::write_all(STDOUT_FILENO, b"\n");
+    done
 }
 
-pub fn print_differences(name: &[u8], tally: Tally) {
-    print_counts(name, tally, b" differences");
-    print_first(b", the first in line ", tally.first_different);
+// How many bytes were read. A file that is missing has none, and one that is too long is cut, which leaves its last record incomplete.
+pub fn read_file(files: &impl Files, name: &str, text: &mut [u8]) -> usize
+    ensures in_bounds { result ≤ length text.new }
+    ensures prefix { result ≡ length (take result text.new) }
+{
+    match File::open(files, name) {
+        Ok(file) => read_full(file, text),
+        Err(_) => 0,
+    }
+}
+
+fn print_counts(rt: &impl Print, name: &str, tally: Tally, noun: &str) -> io::Result<()> {
+    print!(rt;
+        "{name}: {} records, {} {noun}",
+        tally.records, tally.differences
+    )
+}
+
+fn print_first(rt: &impl Print, words: &str, line: u64) -> io::Result<()> {
+    if line > 0 {
+        print!(rt; ", {words} in line {line}")?;
+    }
+    println!(rt; "")
+}
+
+pub fn print_differences(rt: &impl Print, name: &str, tally: Tally) -> io::Result<()> {
+    print_counts(rt, name, tally, "differences")?;
+    print_first(rt, "the first", tally.first_different)
 }
 
 // For a file whose records are all wrong on purpose: each is to differ.
-pub fn print_noticed(name: &[u8], tally: Tally) {
-    print_counts(name, tally, b" noticed");
-    print_first(b", the first unnoticed in line ", tally.first_same);
+pub fn print_noticed(rt: &impl Print, name: &str, tally: Tally) -> io::Result<()> {
+    print_counts(rt, name, tally, "noticed")?;
+    print_first(rt, "the first unnoticed", tally.first_same)
 }

@@ -1,0 +1,69 @@
+// Doubles: order, minimum, whole numbers, fused multiplication and square root.
+ghost use Rattle.std.specs.Prelude.{◌≡◌};
+ghost use Rattle.std.specs.Float.{binary64};
+ghost use Rattle.binary64.specs.TotalOrder.{total_ordering, rank_of};
+ghost use Rattle.binary64.specs.Minimum.{minimum_number};
+ghost use Rattle.binary64.specs.Integral.{floor_of, ceil_of};
+ghost use Rattle.binary64.specs.Convert.{converted_of};
+ghost use Rattle.fused.specs.Fused.{fused_multiply_add};
+ghost use Rattle.root.specs.Root.{square_root};
+ghost use Rattle.c_api.specs.Code.{ordering_code, conversion_answer};
+
+use c_api::ConversionAnswer;
+
+// How the datum of the bit pattern x stands to that of y in the total order: -1, 0 or 1.
+#[unsafe(no_mangle)]
+pub extern "C" fn koshirga_total_cmp(x: u64, y: u64) -> i32
+    ensures { result ≡ ordering_code (total_ordering x y) }
+{
+    c_api::arithmetic::koshirga_total_cmp(x, y)
+}
+
+#[unsafe(no_mangle)]
+pub extern "C" fn koshirga_rank(x: f64) -> u64
+    ensures { result ≡ rank_of x }
+{
+    c_api::arithmetic::koshirga_rank(x)
+}
+
+#[unsafe(no_mangle)]
+pub extern "C" fn koshirga_minimum_number(x: f64, y: f64) -> f64
+    ensures { result ≡ minimum_number x y }
+{
+    c_api::arithmetic::koshirga_minimum_number(x, y)
+}
+
+#[unsafe(no_mangle)]
+pub extern "C" fn koshirga_floor(x: f64) -> f64
+    ensures { result ≡ floor_of x }
+{
+    c_api::arithmetic::koshirga_floor(x)
+}
+
+#[unsafe(no_mangle)]
+pub extern "C" fn koshirga_ceil(x: f64) -> f64
+    ensures { result ≡ ceil_of x }
+{
+    c_api::arithmetic::koshirga_ceil(x)
+}
+
+#[unsafe(no_mangle)]
+pub extern "C" fn koshirga_to_i64(x: f64) -> ConversionAnswer
+    ensures { result ≡ conversion_answer (converted_of x) }
+{
+    c_api::arithmetic::koshirga_to_i64(x)
+}
+
+#[unsafe(no_mangle)]
+pub extern "C" fn koshirga_mul_add(a: f64, b: f64, c: f64) -> f64
+    ensures { result ≡ fused_multiply_add binary64 a b c }
+{
+    c_api::arithmetic::koshirga_mul_add(a, b, c)
+}
+
+#[unsafe(no_mangle)]
+pub extern "C" fn koshirga_sqrt(x: f64) -> f64
+    ensures { result ≡ square_root binary64 x }
+{
+    c_api::arithmetic::koshirga_sqrt(x)
+}

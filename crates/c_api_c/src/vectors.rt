@@ -1,0 +1,99 @@
+// Vectors, directions, and the weights of a point in a triangle.
+ghost use Rattle.std.specs.Prelude.{◌≡◌};
+ghost use Rattle.vector.specs.Vector.{dot_product, cross_product, vector_difference, vector_sum, vector_multiple, vector_quotient, squared_length, length_of, normalized};
+ghost use Rattle.vector.specs.Direction.{direction_of};
+ghost use Rattle.barycentric.specs.LeastWeight.{least_weight};
+ghost use Rattle.barycentric.specs.Ericson.{projected_barycentric};
+ghost use Rattle.c_api.specs.Code.{direction_code};
+
+use vector::{Vector3, Weights};
+
+#[unsafe(no_mangle)]
+pub extern "C" fn koshirga_dot(a: Vector3, b: Vector3) -> f64
+    ensures { result ≡ dot_product a b }
+{
+    c_api::vectors::koshirga_dot(a, b)
+}
+
+#[unsafe(no_mangle)]
+pub extern "C" fn koshirga_cross(a: Vector3, b: Vector3) -> Vector3
+    ensures { result ≡ cross_product a b }
+{
+    c_api::vectors::koshirga_cross(a, b)
+}
+
+#[unsafe(no_mangle)]
+pub extern "C" fn koshirga_minus(a: Vector3, b: Vector3) -> Vector3
+    ensures { result ≡ vector_difference a b }
+{
+    c_api::vectors::koshirga_minus(a, b)
+}
+
+#[unsafe(no_mangle)]
+pub extern "C" fn koshirga_plus(a: Vector3, b: Vector3) -> Vector3
+    ensures { result ≡ vector_sum a b }
+{
+    c_api::vectors::koshirga_plus(a, b)
+}
+
+#[unsafe(no_mangle)]
+pub extern "C" fn koshirga_scale(v: Vector3, factor: f64) -> Vector3
+    ensures { result ≡ vector_multiple v factor }
+{
+    c_api::vectors::koshirga_scale(v, factor)
+}
+
+#[unsafe(no_mangle)]
+pub extern "C" fn koshirga_divide(v: Vector3, divisor: f64) -> Vector3
+    ensures { result ≡ vector_quotient v divisor }
+{
+    c_api::vectors::koshirga_divide(v, divisor)
+}
+
+#[unsafe(no_mangle)]
+pub extern "C" fn koshirga_norm_squared(v: Vector3) -> f64
+    ensures { result ≡ squared_length v }
+{
+    c_api::vectors::koshirga_norm_squared(v)
+}
+
+#[unsafe(no_mangle)]
+pub extern "C" fn koshirga_norm(v: Vector3) -> f64
+    ensures { result ≡ length_of v }
+{
+    c_api::vectors::koshirga_norm(v)
+}
+
+#[unsafe(no_mangle)]
+pub extern "C" fn koshirga_normalize(v: Vector3) -> Vector3
+    ensures { result ≡ normalized v }
+{
+    c_api::vectors::koshirga_normalize(v)
+}
+
+// 0 where row 9 lets the direction pass, and otherwise 9.
+#[unsafe(no_mangle)]
+pub extern "C" fn koshirga_direction(v: Vector3) -> u32
+    ensures { result ≡ direction_code (direction_of v) }
+{
+    c_api::vectors::koshirga_direction(v)
+}
+
+#[unsafe(no_mangle)]
+pub extern "C" fn koshirga_projected_barycentric(
+    p: Vector3,
+    a: Vector3,
+    b: Vector3,
+    c: Vector3,
+) -> Weights
+    ensures { result ≡ projected_barycentric p a b c }
+{
+    c_api::vectors::koshirga_projected_barycentric(p, a, b, c)
+}
+
+#[unsafe(no_mangle)]
+pub extern "C" fn koshirga_least_weight(weights: Weights) -> f64
+    ensures { result ≡ least_weight weights }
+{
+    c_api::vectors::koshirga_least_weight(weights)
+}
