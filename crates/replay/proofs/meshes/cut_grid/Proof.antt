@@ -3,46 +3,46 @@ use Rattle.std.proofs.Common.{sym, arith, length-take-le, rules}
 use Rattle.replay.proofs.meshes.cut_grid.Statement.{statement}
 use Rattle.replay.proofs.meshes.cut_grid.Tie as tie
 
-take_grid_lengths_requires : tie.Need-take-grid-lengths-requires
+take_grid_lengths_requires : tie.Need-take_grid_lengths-lengths-requires
 take_grid_lengths_requires c κs = search rules
 
-slice_relend_prefix_replay_grid : tie.Need-slice-relend-prefix-replay-grid
+slice_relend_prefix_replay_grid : tie.Need-slice_bounds-replay_grid-end
 slice_relend_prefix_replay_grid c = search rules
 
-slice_aggregate_replay_grid : tie.Need-slice-aggregate-replay-grid
+slice_aggregate_replay_grid : tie.Need-slice_bounds-replay_grid-end-2
 slice_aggregate_replay_grid c = sym (length-take-le _ _ (omega arith))
 
-slice_relend_prefix_replay_grid_2 : tie.Need-slice-relend-prefix-replay-grid-2
+slice_relend_prefix_replay_grid_2 : tie.Need-slice_bounds-replay_grid-end-3
 slice_relend_prefix_replay_grid_2 c = search rules
 
-slice_aggregate_replay_grid_2 : tie.Need-slice-aggregate-replay-grid-2
+slice_aggregate_replay_grid_2 : tie.Need-slice_bounds-replay_grid-end-4
 slice_aggregate_replay_grid_2 c = sym (length-take-le _ _ (omega arith))
 
-slice_relend_prefix_replay_grid_3 : tie.Need-slice-relend-prefix-replay-grid-3
+slice_relend_prefix_replay_grid_3 : tie.Need-slice_bounds-replay_grid-end-5
 slice_relend_prefix_replay_grid_3 c = search rules
 
-slice_aggregate_replay_grid_3 : tie.Need-slice-aggregate-replay-grid-3
+slice_aggregate_replay_grid_3 : tie.Need-slice_bounds-replay_grid-end-6
 slice_aggregate_replay_grid_3 c = sym (length-take-le _ _ (omega arith))
 
-slice_relend_prefix_replay_grid_4 : tie.Need-slice-relend-prefix-replay-grid-4
+slice_relend_prefix_replay_grid_4 : tie.Need-slice_bounds-replay_grid-end-7
 slice_relend_prefix_replay_grid_4 c = search rules
 
-slice_aggregate_replay_grid_4 : tie.Need-slice-aggregate-replay-grid-4
+slice_aggregate_replay_grid_4 : tie.Need-slice_bounds-replay_grid-end-8
 slice_aggregate_replay_grid_4 c = sym (length-take-le _ _ (omega arith))
 
-replay_grid_requires : tie.Need-replay-grid-requires
+replay_grid_requires : tie.Need-replay_grid-requires
 replay_grid_requires c κs = search rules
 
-same_length : tie.Need-same-length
+same_length : tie.Need-shape_of-cell_starts
 same_length c = search rules
 
-same_length_2 : tie.Need-same-length-2
+same_length_2 : tie.Need-shape_of-cell_ids
 same_length_2 c = search rules
 
-same_length_3 : tie.Need-same-length-3
+same_length_3 : tie.Need-shape_of-triangle_starts
 same_length_3 c = search rules
 
-same_length_4 : tie.Need-same-length-4
+same_length_4 : tie.Need-shape_of-triples
 same_length_4 c = search rules
 
 returns : tie.Need-returns

@@ -6,37 +6,37 @@ use Rattle.replay.proofs.meshes.cut_mesh.Tie as tie
 new_requires : tie.Need-new-requires
 new_requires c κs = search rules
 
-take_mesh_lengths_requires : tie.Need-take-mesh-lengths-requires
+take_mesh_lengths_requires : tie.Need-take_mesh_lengths-lengths-requires
 take_mesh_lengths_requires c κs = search rules
 
-slice_relend_prefix_replay_mesh : tie.Need-slice-relend-prefix-replay-mesh
+slice_relend_prefix_replay_mesh : tie.Need-slice_bounds-replay_mesh-end
 slice_relend_prefix_replay_mesh c = search rules
 
-slice_aggregate_replay_mesh : tie.Need-slice-aggregate-replay-mesh
+slice_aggregate_replay_mesh : tie.Need-slice_bounds-replay_mesh-end-2
 slice_aggregate_replay_mesh c = sym (length-take-le _ _ (omega arith))
 
-slice_relend_prefix_replay_mesh_2 : tie.Need-slice-relend-prefix-replay-mesh-2
+slice_relend_prefix_replay_mesh_2 : tie.Need-slice_bounds-replay_mesh-end-3
 slice_relend_prefix_replay_mesh_2 c = search rules
 
-slice_aggregate_replay_mesh_2 : tie.Need-slice-aggregate-replay-mesh-2
+slice_aggregate_replay_mesh_2 : tie.Need-slice_bounds-replay_mesh-end-4
 slice_aggregate_replay_mesh_2 c = sym (length-take-le _ _ (omega arith))
 
-slice_relend_prefix_replay_mesh_3 : tie.Need-slice-relend-prefix-replay-mesh-3
+slice_relend_prefix_replay_mesh_3 : tie.Need-slice_bounds-replay_mesh-end-5
 slice_relend_prefix_replay_mesh_3 c = search rules
 
-slice_aggregate_replay_mesh_3 : tie.Need-slice-aggregate-replay-mesh-3
+slice_aggregate_replay_mesh_3 : tie.Need-slice_bounds-replay_mesh-end-6
 slice_aggregate_replay_mesh_3 c = sym (length-take-le _ _ (omega arith))
 
-replay_mesh_requires : tie.Need-replay-mesh-requires
+replay_mesh_requires : tie.Need-replay_mesh-requires
 replay_mesh_requires c κs = search rules
 
-same_length : tie.Need-same-length
+same_length : tie.Need-shape_of-positions
 same_length c = search rules
 
-same_length_2 : tie.Need-same-length-2
+same_length_2 : tie.Need-shape_of-starts
 same_length_2 c = search rules
 
-same_length_3 : tie.Need-same-length-3
+same_length_3 : tie.Need-shape_of-entries
 same_length_3 c = search rules
 
 returns : tie.Need-returns

@@ -3,39 +3,39 @@ use Rattle.std.proofs.Common.{rules}
 use Rattle.replay.proofs.queries.ask.Statement.{statement}
 use Rattle.replay.proofs.queries.ask.Tie as tie
 
-abbrev invariant_loop : tie.invariant_loop
+abbrev invariant_loop : tie.invariant-loop-left
 invariant_loop text side positions cell-starts cell-ids triangle-starts triples left₀ at₀ good₀ left at good =
     Unit {0}
 
-abbrev decreases_loop : tie.decreases_loop
+abbrev decreases_loop : tie.decreases-loop-left
 decreases_loop text side positions cell-starts cell-ids triangle-starts triples left₀ at₀ good₀ left at good =
     left
 
-take_u32_requires : tie.Need-take-u32-requires invariant_loop decreases_loop
+take_u32_requires : tie.Need-take_u32-count-requires invariant_loop decreases_loop
 take_u32_requires c κs = search rules
 
-loop_holds : tie.Need-loop-init invariant_loop decreases_loop
+loop_holds : tie.Need-loop-left-init invariant_loop decreases_loop
 loop_holds c = search rules
 
-read_direction_requires : tie.Need-read-direction-requires invariant_loop decreases_loop
+read_direction_requires : tie.Need-read_direction-read-requires invariant_loop decreases_loop
 read_direction_requires c κs = search rules
 
-grid_answers_requires : tie.Need-grid-answers-requires invariant_loop decreases_loop
+grid_answers_requires : tie.Need-grid_answers-next-requires invariant_loop decreases_loop
 grid_answers_requires c κs = search rules
 
-sub_left : tie.Need-overflow-sub-left invariant_loop decreases_loop
+sub_left : tie.Need-overflow_sub-left invariant_loop decreases_loop
 sub_left c = search rules
 
-loop_less : tie.Need-loop-smaller invariant_loop decreases_loop
+loop_less : tie.Need-loop-left-smaller invariant_loop decreases_loop
 loop_less c = search rules
 
-loop_again : tie.Need-loop-preserved invariant_loop decreases_loop
+loop_again : tie.Need-loop-left-preserved invariant_loop decreases_loop
 loop_again c = search rules
 
-returns : tie.Need-returns invariant_loop decreases_loop
+returns : tie.Need-returns-after-loop-left invariant_loop decreases_loop
 returns c = search rules
 
-returns_2 : tie.Need-returns-2 invariant_loop decreases_loop
+returns_2 : tie.Need-returns-then-not-good invariant_loop decreases_loop
 returns_2 c = search rules
 
 pub ask_spec : {M : Type 1} → statement M
