@@ -15,7 +15,7 @@ unfoldable pub below_or_negative_zero : Float → Float → Bool
 unfolding lt
 below_or_negative_zero x y = lt x y || (is_zero true x && is_zero false y)
 
--- IEEE 754-2019, 9.6: minimum_number(x, y) is x if x is less than y, y if y is less than x, the number where one operand is a NaN, and a NaN where both are.
+-- IEEE 754-2019, 9.6: minimumNumber(x, y) is x if x is less than y, y if y is less than x, the number where one operand is a NaN, and a NaN where both are.
 -- A NaN y is less than nothing. Where neither is less and neither a NaN, both are the same datum, and the answer is x or y alike (`minimum_commutes`).
 unfoldable pub minimum_number : Float → Float → Float
 unfolding below_or_negative_zero is_nan

@@ -34,7 +34,7 @@ number_order x y =
     cond (lt (of_bits binary64 x) (of_bits binary64 y)) true
     (cond (lt (of_bits binary64 y) (of_bits binary64 x)) false (is_negative x || not (is_negative y)))
 
--- IEEE 754-2019, 5.10: total_order(x, y). By d) 1) and 2) a number stands above every −NaN and below every +NaN.
+-- IEEE 754-2019, 5.10: totalOrder(x, y). By d) 1) and 2) a number stands above every −NaN and below every +NaN.
 unfoldable pub total_order : ℕ → ℕ → Bool
 unfolding number_order nan_order nan_bits
 total_order x y =

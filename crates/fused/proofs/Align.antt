@@ -127,6 +127,12 @@ pub sum_ordered : (f : Format) (p s t n m : Bool) (x y u l : Scaled) (c : ℕ) �
 sum_ordered f true s t n m x y u l c C h k q r = (λ i. sum f (q i) (magnitude (h i)) (r i) (magnitude (k i)) c) ∙ sum_comm f t s (magnitude y) (magnitude x) c C
 sum_ordered f false s t n m x y u l c C h k q r = λ i. sum f (q i) (magnitude (h i)) (r i) (magnitude (k i)) c
 
+pub align_first : (f : Format) (s t : Bool) (X Y v d e b : ℕ) → Alignable X → Alignable Y → d < e → StickyEquivalent 2 (2 ^ (e - d)) X v
+    → sum f s (v * 2 ^ e) t (Y * 2 ^ e) (2 ^ (low f + b)) ≡ sum f s (X * 2 ^ d) t (Y * 2 ^ e) (2 ^ (low f + b))
+align_first f s t X Y v d e b ax ay h sticky =
+    let C : 0 < 2 ^ (low f + b) = pow_pos (low f + b) in
+    sum_comm f s t (v * 2 ^ e) (Y * 2 ^ e) (2 ^ (low f + b)) C ∙ align_second f t s Y X v e d b ay ax (le_of_lt h) sticky ∙ sum_comm f t s (Y * 2 ^ e) (X * 2 ^ d) (2 ^ (low f + b)) C
+
 -- ---- the shifted magnitude leaves room for the sum
 pub shifted_lt : (j n v : ℕ) → Alignable n → StickyEquivalent 2 (2 ^ j) n v → v < 2 ^ 126
 shifted_lt j n v an sticky =

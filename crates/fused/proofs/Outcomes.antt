@@ -17,21 +17,24 @@ use Rattle.rounding.proofs.Sum.{sub_mul, sum_same_sign, sum_opposite_lt, sum_opp
 
 -- ---- the outcomes
 module _ (f : Format) (s t : Bool) (a b e c v : ℕ) where
-  outcome_same_sign : s ≡ t → v ≡ a + b → round f s (v * 2 ^ e) c ≡ sum f s (a * 2 ^ e) t (b * 2 ^ e) c
+  pub outcome_same_sign : s ≡ t → v ≡ a + b → round f s (v * 2 ^ e) c ≡ sum f s (a * 2 ^ e) t (b * 2 ^ e) c
   outcome_same_sign q h = ap (λ (z : ℕ). round f s z c) (ap (λ (z : ℕ). z * 2 ^ e) h ∙ add-mul a b (2 ^ e)) ∙ sym (sum_same_sign f s t (a * 2 ^ e) (b * 2 ^ e) c q)
 
-  outcome_lt : (s ≡ t → ⊥) → a < b → v ≡ b - a → round f t (v * 2 ^ e) c ≡ sum f s (a * 2 ^ e) t (b * 2 ^ e) c
+  pub outcome_lt : (s ≡ t → ⊥) → a < b → v ≡ b - a → round f t (v * 2 ^ e) c ≡ sum f s (a * 2 ^ e) t (b * 2 ^ e) c
   outcome_lt q l h =
       ap (λ (z : ℕ). round f t z c) (ap (λ (z : ℕ). z * 2 ^ e) h ∙ sub_mul b a (2 ^ e))
       ∙ sym (sum_opposite_lt f s t (a * 2 ^ e) (b * 2 ^ e) c q (mul-lt-mul_of_pos_right l (pow_pos e)))
 
-  outcome_gt : (s ≡ t → ⊥) → v ≡ a - b → 0 < v → round f s (v * 2 ^ e) c ≡ sum f s (a * 2 ^ e) t (b * 2 ^ e) c
+  pub outcome_gt : (s ≡ t → ⊥) → v ≡ a - b → 0 < v → round f s (v * 2 ^ e) c ≡ sum f s (a * 2 ^ e) t (b * 2 ^ e) c
   outcome_gt q h p =
       ap (λ (z : ℕ). round f s z c) (ap (λ (z : ℕ). z * 2 ^ e) h ∙ sub_mul a b (2 ^ e))
       ∙ sym (sum_opposite_gt f s t (a * 2 ^ e) (b * 2 ^ e) c q (mul-lt-mul_of_pos_right (let k : b < a = omega arith in k) (pow_pos e)))
 
+  pub outcome_eq : (s ≡ t → ⊥) → b ≤ a → v ≡ a - b → v ≡ 0 → 0 < c → of_bits f 0 ≡ sum f s (a * 2 ^ e) t (b * 2 ^ e) c
+  outcome_eq q g h z C = zero_pattern f ∙ sym (sum_opposite_eq f s t (a * 2 ^ e) (b * 2 ^ e) c q (ap (λ (z : ℕ). z * 2 ^ e) (let k : a ≡ b = omega arith in k)) C)
+
 -- ---- the tests of the signs
-signs_differ : (s t : Bool) → beq s t ≡ false → s ≡ t → ⊥
+pub signs_differ : (s t : Bool) → beq s t ≡ false → s ≡ t → ⊥
 signs_differ true true e h = true≢false e
 signs_differ false false e h = true≢false e
 signs_differ true false e h = true≢false h

@@ -10,7 +10,7 @@ infinite_product_plus s nan = nan
 infinite_product_plus s (inf u) = cond (beq s u) (inf s) nan
 infinite_product_plus s (fin u o g) = inf s
 
--- IEEE 754-2019, 5.4.1: fused_multiply_add(x, y, z) is x × y + z as if with unbounded range and precision, rounded once, to nearest, ties to even (4.3.1).
+-- IEEE 754-2019, 5.4.1: fusedMultiplyAdd(x, y, z) is x × y + z as if with unbounded range and precision, rounded once, to nearest, ties to even (4.3.1).
 -- The product and the sum are exact fractions over one denominator; `sum` alone rounds, and gives an exact zero its sign (6.3): +0 from opposite signs, else the common sign.
 -- A NaN operand gives NaN (6.2), and so does zero times infinity, whatever the addend (7.2 c): NaN also where the addend is a NaN).
 unfoldable pub fused_multiply_add : Format → Float → Float → Float → Float

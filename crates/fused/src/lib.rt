@@ -91,21 +91,27 @@ fn choose_scaled(first: bool, x: Scaled, y: Scaled) -> Scaled
     }
 }
 
-// Two magnitudes of one exponent, added with their signs and rounded (IEEE 754-2019, 4.3.1). An exact
+// Product and addend of one exponent, added with their signs and rounded (IEEE 754-2019, 4.3.1). An exact
 // zero from opposite signs is +0 (IEEE 754-2019, 6.3). The greater of the two, and their sum or
 // difference, are chosen without a branch, as a processor could not foresee it.
-fn add_aligned(x_negative: bool, x: TwoWords, y_negative: bool, y: TwoWords, exponent: u64) -> f64
-    requires fact_1 { 0 < value x + value y }
-    requires fact_2 { value x + value y < 2 ^ 128 }
+fn add_aligned(
+    product_negative: bool,
+    product: TwoWords,
+    addend_negative: bool,
+    addend: TwoWords,
+    exponent: u64,
+) -> f64
+    requires fact_1 { 0 < value product + value addend }
+    requires fact_2 { value product + value addend < 2 ^ 128 }
     requires fact_3 { exponent < 2 ^ 32 }
-    ensures { result ≡ sum binary64 x_negative (value x * 2 ^ exponent) y_negative (value y * 2 ^ exponent) (2 ^ product_scale) }
+    ensures { result ≡ sum binary64 product_negative (value product * 2 ^ exponent) addend_negative (value addend * 2 ^ exponent) (2 ^ product_scale) }
 {
-    let swap = words::less_words(x, y);
-    let greater = words::choose_words(swap, y, x);
-    let lesser = words::choose_words(swap, x, y);
-    let negative = choose_sign(swap, y_negative, x_negative);
+    let swap = words::less_words(product, addend);
+    let greater = words::choose_words(swap, addend, product);
+    let lesser = words::choose_words(swap, product, addend);
+    let negative = choose_sign(swap, addend_negative, product_negative);
     let total = words::choose_words(
-        x_negative == y_negative,
+        product_negative == addend_negative,
         words::add_words(greater, lesser),
         words::subtract_words(greater, lesser),
     );

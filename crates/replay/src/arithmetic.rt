@@ -55,7 +55,7 @@ pub fn replay_total_order(text: &[u8], start: usize) -> Cursor {
     records::expect(text, y.cursor(), code)
 }
 
-// Two numbers; the lesser of them, minimum_number (IEEE 754-2019, 9.6).
+// Two numbers; the lesser of them, minimumNumber (IEEE 754-2019, 9.6).
 pub fn replay_minimum_number(text: &[u8], start: usize) -> Cursor {
     let mut operands = [0.0f64; 2];
     let cursor = records::read_f64s(text, Cursor::new(start), &mut operands);

@@ -19,7 +19,7 @@ unfoldable pub scaled_root : Format → ℕ → Float
 unfolding round integer_root size
 scaled_root f n = round f false (root_in_halves n (integer_root (size n) n)) (2 ^ (low f + 1))
 
--- IEEE 754-2019, 5.4.1: square_root. A zero is its own root, −0 too (6.3); the root of a number below zero is invalid, so NaN (7.2 g)); +∞ is its own root (6.1).
+-- IEEE 754-2019, 5.4.1: squareRoot. A zero is its own root, −0 too (6.3); the root of a number below zero is invalid, so NaN (7.2 g)); +∞ is its own root (6.1).
 -- m * 2 ^ e times 4 ^ low is a whole number for any value of the format.
 unfoldable pub square_root : Format → Float → Float
 unfolding scaled_root

@@ -1,4 +1,4 @@
-// Square root on binary64: square_root (IEEE 754-2019, 5.4.1), rounded to nearest, ties to even (IEEE
+// Square root on binary64: squareRoot (IEEE 754-2019, 5.4.1), rounded to nearest, ties to even (IEEE
 // 754-2019, 4.3.1). The digits of the root come at once, from a candidate that is tested, or one by
 // one.
 #![tactic(auto)]

@@ -99,21 +99,24 @@ pub fn collapse_sticky(x: TwoWords) -> u64
     if x.lo == 0 { x.hi } else { x.hi / 2 * 2 + 1 }
 }
 
-// x / 2^shift for a shift below 64, likewise. What leaves the high word goes left by 64 - shift places
-// in two steps, so that a shift of 0 is no case of its own: no word is shifted by 64.
+// x / 2^shift for a shift of 1 to 63, likewise.
 fn shift_words_right_sticky_short(x: TwoWords, shift: u64) -> TwoWords
-    requires { shift < 64 }
+    requires fact_1 { 0 < shift }
+    requires fact_2 { shift < 64 }
     ensures { StickyEquivalent 2 (2 ^ shift) (value x) (value result) }
 {
     let kept = x.lo >> shift;
-    let lo = ((x.hi << 1) << (63 - shift)) + kept;
-    TwoWords {
-        hi: x.hi >> shift,
-        lo: if kept << shift == x.lo {
-            lo
-        } else {
-            lo / 2 * 2 + 1
-        },
+    let lo = (x.hi << (64 - shift)) + kept;
+    if kept << shift == x.lo {
+        TwoWords {
+            hi: x.hi >> shift,
+            lo,
+        }
+    } else {
+        TwoWords {
+            hi: x.hi >> shift,
+            lo: lo / 2 * 2 + 1,
+        }
     }
 }
 
@@ -121,6 +124,9 @@ fn shift_words_right_sticky_short(x: TwoWords, shift: u64) -> TwoWords
 pub fn shift_words_right_sticky(x: TwoWords, shift: u64) -> TwoWords
     ensures { StickyEquivalent 2 (2 ^ shift) (value x) (value result) }
 {
+    if shift == 0 {
+        return x;
+    }
     if shift < 64 {
         return shift_words_right_sticky_short(x, shift);
     }

@@ -12,20 +12,20 @@ use Rattle.fused.proofs.add_aligned.Statement.{statement}
 use Rattle.fused.proofs.add_aligned.Tie as tie
 
 -- the greater and the lesser
-greater_is : (c : tie.After-choose_sign-negative) → value c.before.before.choose_words-greater.result ≡ cond c.before.before.before.less_words-swap.result (value c.before.before.before.before.args.y) (value c.before.before.before.before.args.x)
+greater_is : (c : tie.After-choose_sign-negative) → value c.before.before.choose_words-greater.result ≡ cond c.before.before.before.less_words-swap.result (value c.before.before.before.before.args.addend) (value c.before.before.before.before.args.product)
 greater_is c = value_chosen c.before.before.before.less_words-swap.result _ _ _ c.before.before.choose_words-greater.ensures
 
-lesser_is : (c : tie.After-choose_sign-negative) → value c.before.choose_words-lesser.result ≡ cond c.before.before.before.less_words-swap.result (value c.before.before.before.before.args.x) (value c.before.before.before.before.args.y)
+lesser_is : (c : tie.After-choose_sign-negative) → value c.before.choose_words-lesser.result ≡ cond c.before.before.before.less_words-swap.result (value c.before.before.before.before.args.product) (value c.before.before.before.before.args.addend)
 lesser_is c = value_chosen c.before.before.before.less_words-swap.result _ _ _ c.before.choose_words-lesser.ensures
 
 -- their sum or difference
 total_is : (c : tie.After-choose_words-total)
     → value c.choose_words-total.result
-    ≡ cond (beq c.before.before.before.before.before.before.before.args.x_negative c.before.before.before.before.before.before.before.args.y_negative) (value c.before.before.before.before.before.choose_words-greater.result + value c.before.before.before.before.choose_words-lesser.result) (value c.before.before.before.before.before.choose_words-greater.result - value c.before.before.before.before.choose_words-lesser.result)
+    ≡ cond (beq c.before.before.before.before.before.before.before.args.product_negative c.before.before.before.before.before.before.before.args.addend_negative) (value c.before.before.before.before.before.choose_words-greater.result + value c.before.before.before.before.choose_words-lesser.result) (value c.before.before.before.before.before.choose_words-greater.result - value c.before.before.before.before.choose_words-lesser.result)
 total_is c =
     let a = c.before.before.before.before.before.before.before.args in
-    value_chosen (beq a.x_negative a.y_negative) _ _ _ c.choose_words-total.ensures
-    ∙ (λ i. cond (beq a.x_negative a.y_negative) (c.before.before.add_words.ensures i) (c.before.subtract_words.ensures i))
+    value_chosen (beq a.product_negative a.addend_negative) _ _ _ c.choose_words-total.ensures
+    ∙ (λ i. cond (beq a.product_negative a.addend_negative) (c.before.before.add_words.ensures i) (c.before.subtract_words.ensures i))
 
 less_words_requires : tie.Need-less_words-swap-requires
 less_words_requires c κs = search rules
