@@ -88,12 +88,15 @@ fn mapped_face(signs: Signs, place: usize) -> usize
     FACE_MAPPING[i + j + k + place] as usize
 }
 
+// The greatest flag sum that picks a face.
+const GREATEST_FLAG_SUM: usize = 3;
+
 // The face that three symmetry signs and three outside flags choose, or refusal 10.
 pub fn choose_face(signs: Signs, outside: Outside) -> FaceChoice
     ensures { result ≡ choose_face signs outside }
 {
     let sum = flag_sum(outside);
-    if sum <= 3 {
+    if sum <= GREATEST_FLAG_SUM {
         FaceChoice::Face(mapped_face(signs, sum))
     } else {
         FaceChoice::Refused(Refusal::new(10))

@@ -20,9 +20,9 @@ region_weights d1 d2 d3 d4 d5 d6 =
     let vc = fused_difference d1 d4 d3 d2 in
     let vb = fused_difference d5 d2 d1 d6 in
     let va = fused_difference d3 d6 d5 d4 in
-    let v_on_aB = div binary64 d1 (sub binary64 d1 d3) in
-    let w_on_aC = div binary64 d2 (sub binary64 d2 d6) in
-    let w_on_bC = div binary64 (sub binary64 d4 d3) (add binary64 (sub binary64 d4 d3) (sub binary64 d5 d6)) in
+    let v_on_ab = div binary64 d1 (sub binary64 d1 d3) in
+    let w_on_ac = div binary64 d2 (sub binary64 d2 d6) in
+    let w_on_bc = div binary64 (sub binary64 d4 d3) (add binary64 (sub binary64 d4 d3) (sub binary64 d5 d6)) in
     let denom = div binary64 one (add binary64 (add binary64 va vb) vc) in
     let v = mul binary64 vb denom in
     let w = mul binary64 vc denom in
@@ -31,13 +31,13 @@ region_weights d1 d2 d3 d4 d5 d6 =
     -- the vertex region of B
     (cond (le positive_zero d3 && le d4 d3) (weights positive_zero one positive_zero)
     -- the edge region of AB
-    (cond (le vc positive_zero && le positive_zero d1 && le d3 positive_zero) (weights (sub binary64 one v_on_aB) v_on_aB positive_zero)
+    (cond (le vc positive_zero && le positive_zero d1 && le d3 positive_zero) (weights (sub binary64 one v_on_ab) v_on_ab positive_zero)
     -- the vertex region of C
     (cond (le positive_zero d6 && le d5 d6) (weights positive_zero positive_zero one)
     -- the edge region of AC
-    (cond (le vb positive_zero && le positive_zero d2 && le d6 positive_zero) (weights (sub binary64 one w_on_aC) positive_zero w_on_aC)
+    (cond (le vb positive_zero && le positive_zero d2 && le d6 positive_zero) (weights (sub binary64 one w_on_ac) positive_zero w_on_ac)
     -- the edge region of BC
-    (cond (le va positive_zero && le positive_zero (sub binary64 d4 d3) && le positive_zero (sub binary64 d5 d6)) (weights positive_zero (sub binary64 one w_on_bC) w_on_bC)
+    (cond (le va positive_zero && le positive_zero (sub binary64 d4 d3) && le positive_zero (sub binary64 d5 d6)) (weights positive_zero (sub binary64 one w_on_bc) w_on_bc)
     -- the face region
     (weights (sub binary64 (sub binary64 one v) w) v w))))))
 

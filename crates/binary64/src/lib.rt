@@ -145,6 +145,9 @@ pub struct Converted {
     pub how: Conversion,
 }
 
+// From here on no double has a fraction: 2^53.
+const NO_FRACTION: i64 = 9007199254740992;
+
 // What became of a value of the range, by the whole number that is left of it. From 2^53 on there is no fraction to cut off.
 fn kept_or_cut(x: f64, whole: i64) -> Conversion
     requires fact_1 { lt x above_range ≡ true }
@@ -152,7 +155,7 @@ fn kept_or_cut(x: f64, whole: i64) -> Conversion
     requires fact_3 { whole ≡ to_i64 x }
     ensures { result ≡ conversion_of x }
 {
-    if whole >= 9007199254740992 {
+    if whole >= NO_FRACTION {
         Conversion::Kept
     } else if whole <= -9007199254740992 {
         Conversion::Kept

@@ -30,11 +30,14 @@ pub struct Placement {
     pub held: usize,
 }
 
+// The third cell before the first one: a margin reaches no further.
+const THIRD_BEFORE: i64 = -3;
+
 // How many cells a coordinate below 0 lies before the first one, 4 for all that lie further. By comparisons alone: no number is negated.
 fn cells_below(coordinate: i64) -> usize
     ensures { CellsBelow coordinate result }
 {
-    if coordinate < -3 {
+    if coordinate < THIRD_BEFORE {
         4
     } else if coordinate < -2 {
         3

@@ -12,6 +12,9 @@ pub struct Settings {
     pub margin: u32,
 }
 
+// The greatest margin of a grid.
+const GREATEST_MARGIN: u32 = 3;
+
 // Rows 19 and 20.
 pub fn check_settings(settings: Settings) -> Verdict
     ensures { result ≡ settings_rows settings Passed }
@@ -19,7 +22,7 @@ pub fn check_settings(settings: Settings) -> Verdict
     if !((settings.factor >= 0.5) & (settings.factor <= 4.0)) {
         return Verdict::Refused(Refusal::new(19));
     }
-    if settings.margin > 3 {
+    if settings.margin > GREATEST_MARGIN {
         return Verdict::Refused(Refusal::new(20));
     }
     Verdict::Passed

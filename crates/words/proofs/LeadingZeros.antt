@@ -39,14 +39,24 @@ module _ (h l z : ℕ) (k : TopShift h z) (L : l < 2 ^ 64) where
   split : 2 ^ z * 2 ^ (64 - z) ≡ 2 ^ 64
   split = pow_split z 64 (le_of_lt k.short)
 
+  pub two_words_high_lt : h * 2 ^ z % 2 ^ 64 + l / 2 ^ (64 - z) < 2 ^ 64
+  two_words_high_lt = left_high_lt (2 ^ z) (2 ^ (64 - z)) (2 ^ 64) split (pow_pos z) (pow_pos (64 - z)) h l k.fits L
+
+  pub two_words_shifted : (h * 2 ^ z % 2 ^ 64 + l / 2 ^ (64 - z)) * 2 ^ 64 + l * 2 ^ z % 2 ^ 64 ≡ (h * 2 ^ 64 + l) * 2 ^ z
+  two_words_shifted = left_value (2 ^ z) (2 ^ (64 - z)) (2 ^ 64) split (pow_pos z) (pow_pos (64 - z)) h l k.fits
+
+  pub two_words_top : 2 ^ 63 ≤ h * 2 ^ z % 2 ^ 64 + l / 2 ^ (64 - z)
+  two_words_top = le_trans (shifted_top h z k) (le-add_right (h * 2 ^ z % 2 ^ 64) (l / 2 ^ (64 - z)))
+
+  -- the same where what enters the high word goes right in two steps
   high_is : h * 2 ^ z % 2 ^ 64 + l / 2 / 2 ^ (63 - z) ≡ h * 2 ^ z % 2 ^ 64 + l / 2 ^ (64 - z)
   high_is = ap (λ (y : ℕ). h * 2 ^ z % 2 ^ 64 + y) (right_in_two_steps l z k.short)
 
-  pub two_words_high_lt : h * 2 ^ z % 2 ^ 64 + l / 2 / 2 ^ (63 - z) < 2 ^ 64
-  two_words_high_lt = lt_of_le_of_lt (le_of_eq high_is) (left_high_lt (2 ^ z) (2 ^ (64 - z)) (2 ^ 64) split (pow_pos z) (pow_pos (64 - z)) h l k.fits L)
+  pub two_words_high_lt_in_steps : h * 2 ^ z % 2 ^ 64 + l / 2 / 2 ^ (63 - z) < 2 ^ 64
+  two_words_high_lt_in_steps = lt_of_le_of_lt (le_of_eq high_is) (left_high_lt (2 ^ z) (2 ^ (64 - z)) (2 ^ 64) split (pow_pos z) (pow_pos (64 - z)) h l k.fits L)
 
-  pub two_words_shifted : (h * 2 ^ z % 2 ^ 64 + l / 2 / 2 ^ (63 - z)) * 2 ^ 64 + l * 2 ^ z % 2 ^ 64 ≡ (h * 2 ^ 64 + l) * 2 ^ z
-  two_words_shifted = ap (λ (y : ℕ). y * 2 ^ 64 + l * 2 ^ z % 2 ^ 64) high_is ∙ left_value (2 ^ z) (2 ^ (64 - z)) (2 ^ 64) split (pow_pos z) (pow_pos (64 - z)) h l k.fits
+  pub two_words_shifted_in_steps : (h * 2 ^ z % 2 ^ 64 + l / 2 / 2 ^ (63 - z)) * 2 ^ 64 + l * 2 ^ z % 2 ^ 64 ≡ (h * 2 ^ 64 + l) * 2 ^ z
+  two_words_shifted_in_steps = ap (λ (y : ℕ). y * 2 ^ 64 + l * 2 ^ z % 2 ^ 64) high_is ∙ left_value (2 ^ z) (2 ^ (64 - z)) (2 ^ 64) split (pow_pos z) (pow_pos (64 - z)) h l k.fits
 
-  pub two_words_top : 2 ^ 63 ≤ h * 2 ^ z % 2 ^ 64 + l / 2 / 2 ^ (63 - z)
-  two_words_top = le_trans (shifted_top h z k) (le-add_right (h * 2 ^ z % 2 ^ 64) (l / 2 / 2 ^ (63 - z)))
+  pub two_words_top_in_steps : 2 ^ 63 ≤ h * 2 ^ z % 2 ^ 64 + l / 2 / 2 ^ (63 - z)
+  two_words_top_in_steps = le_trans (shifted_top h z k) (le-add_right (h * 2 ^ z % 2 ^ 64) (l / 2 / 2 ^ (63 - z)))

@@ -14,13 +14,13 @@ mapped_face_requires c κs = search rules
 new_requires : tie.Need-new-requires
 new_requires c κs = search rules
 
-returns : tie.Need-returns-then-sum-le3
+returns : tie.Need-returns-then-sum-le-GREATEST_FLAG_SUM
 unfolding choose_face
-returns c = rw (c.mapped_face.ensures, ← c.flag_sum-sum.ensures, le-leb _ _ c.if-sum-le3.true)
+returns c = rw (c.mapped_face.ensures, ← c.flag_sum-sum.ensures, le-leb _ _ c.if-sum-le-GREATEST_FLAG_SUM.true)
 
-returns_2 : tie.Need-returns-else-sum-le3
+returns_2 : tie.Need-returns-else-sum-le-GREATEST_FLAG_SUM
 unfolding choose_face
-returns_2 c = rw (c.new.ensures, ← c.flag_sum-sum.ensures, lt-leb _ _ c.if-sum-le3.false)
+returns_2 c = rw (c.new.ensures, ← c.flag_sum-sum.ensures, lt-leb _ _ c.if-sum-le-GREATEST_FLAG_SUM.false)
 
 pub choose_face_spec : {M : Type 1} → statement M
 choose_face_spec =

@@ -20,10 +20,10 @@ read_is : (s : tie.Start) → read s ≡ to_i64 s.args.x
 read_is s = to_z-of_z w64 s.args.whole s.ranges.whole ∙ s.requires.1.1
 
 int_to_float_if3 : tie.Need-int_to_float-whole
-int_to_float_if3 c = near_exact (read c.before.before.before) c.before.before.if-whole-ge9007199254740992.false c.before.if-whole-leminus9007199254740992.false
+int_to_float_if3 c = near_exact (read c.before.before.before) c.before.before.if-whole-ge-NO_FRACTION.false c.before.if-whole-leminus9007199254740992.false
 
-returns : tie.Need-returns-then-whole-ge9007199254740992
-returns c = let s = c.before in far_kept s.args.x (in_format s) s.requires.0 s.requires.1.0 (inl (subst (λ (z : ℤ). le_z (pos (2 ^ 53)) z ≡ true) (read_is s) c.if-whole-ge9007199254740992.true))
+returns : tie.Need-returns-then-whole-ge-NO_FRACTION
+returns c = let s = c.before in far_kept s.args.x (in_format s) s.requires.0 s.requires.1.0 (inl (subst (λ (z : ℤ). le_z (pos (2 ^ 53)) z ≡ true) (read_is s) c.if-whole-ge-NO_FRACTION.true))
 
 returns_2 : tie.Need-returns-then-whole-leminus9007199254740992
 returns_2 c = let s = c.before.before in far_kept s.args.x (in_format s) s.requires.0 s.requires.1.0 (inr (subst (λ (z : ℤ). le_z z (negsuc (2 ^ 53 - 1)) ≡ true) (read_is s) c.if-whole-leminus9007199254740992.true))

@@ -13,16 +13,10 @@ requested_requires c κs = search rules
 put_text_requires : tie.Need-put_text-requires
 put_text_requires c κs = search rules
 
-returns : tie.Need-returns-then-frequency-eq0
-returns c = let t = c.before.before.before in written_as (sym (listing_refused _ t.requested-frequency.ensures t.if-frequency-eq0.true)) c.put_text.ensures
-
 list_lattice_requires : tie.Need-list_lattice-requires
 list_lattice_requires c κs =
     let e = c.before in
     (omega (arith, e.if-frequency-eq0.false), requested_few _ e.requested-frequency.ensures)
-
-returns_2 : tie.Need-returns
-returns_2 c = let e = c.before.before in written_as (sym (listing_asked _ e.requested-frequency.ensures e.if-frequency-eq0.false)) c.list_lattice.ensures
 
 pub lattice_list_spec : {M : Type 1} → statement M
 lattice_list_spec =
@@ -30,6 +24,6 @@ lattice_list_spec =
     (tie.spec
     requested_requires
     put_text_requires
-    returns
+    (λ c. let t = c.before.before.before in written_as (sym (listing_refused _ t.requested-frequency.ensures t.if-frequency-eq0.true)) c.put_text.ensures)
     list_lattice_requires
-    returns_2)
+    (λ c. let e = c.before.before in written_as (sym (listing_asked _ e.requested-frequency.ensures e.if-frequency-eq0.false)) c.list_lattice.ensures))

@@ -1,7 +1,7 @@
 -- `words::normalise_words` meets its contract. Assumes nothing.
 use Rattle.std.proofs.Common.{◌≡◌, ◌+◌, ◌*◌, ◌^◌, ◌<◌, arith, rules}
 use lib.Count.{count_leading_zeros}
-use Rattle.words.proofs.LeadingZeros.{TopShift, leading_zeros_top, shifted_top, low_word_shifted, two_words_high_lt, two_words_shifted, two_words_top}
+use Rattle.words.proofs.LeadingZeros.{TopShift, leading_zeros_top, shifted_top, low_word_shifted, two_words_high_lt_in_steps, two_words_shifted_in_steps, two_words_top_in_steps}
 use Rattle.words.proofs.normalise_words.Statement.{statement}
 use Rattle.words.proofs.normalise_words.Tie as tie
 
@@ -40,7 +40,7 @@ shr_t14 : tie.Need-overflow_shr-result-else-x-eq0
 shr_t14 c = search rules
 
 add_t15 : tie.Need-overflow_add-result-else-x-eq0
-add_t15 c = record { fits = two_words_high_lt _ _ _ (high_top c.before.before.before) (search rules) }
+add_t15 c = record { fits = two_words_high_lt_in_steps _ _ _ (high_top c.before.before.before) (search rules) }
 
 shl_t16 : tie.Need-overflow_shl-result-else-x-eq0-2
 shl_t16 c = (high_top c.before.before.before.before).short
@@ -53,7 +53,7 @@ returns c =
 returns_2 : tie.Need-returns-else-x-eq0
 returns_2 c =
     let k = high_top c.before.before.before.before in
-    (two_words_shifted _ _ _ k (search rules), two_words_top _ _ _ k (search rules), let s = k.short in omega arith)
+    (two_words_shifted_in_steps _ _ _ k (search rules), two_words_top_in_steps _ _ _ k (search rules), let s = k.short in omega arith)
 
 pub normalise_words_spec : {M : Type 1} → statement M
 normalise_words_spec =
