@@ -1,8 +1,9 @@
 // What `lattice-list` prints, held to the listings of the Rust source for each frequency, in data/, and to a refusal for malformed requests.
 #![tactic(auto)]
 
+use reading::read_file;
+use std::io;
 use std::rt::Files;
-use std::{fs, io};
 
 // Whether an input prints a text.
 fn prints(input: &[u8], expected: &[u8]) -> bool {
@@ -21,16 +22,17 @@ fn report(rt: &impl Print, name: &str, input: &[u8], expected: &[u8]) -> io::Res
 }
 
 // An input that prints the text of a file.
-fn listed(rt: &(impl Files + Print + Alloc), name: &str, input: &[u8]) -> io::Result<()> {
-    let expected = fs::read(rt, name)?;
-    report(rt, name, input, &expected)
+fn listed(rt: &(impl Files + Print), name: &str, input: &[u8]) -> io::Result<()> {
+    let mut expected = [0u8; 16384];
+    let size = read_file(rt, name, &mut expected);
+    report(rt, name, input, &expected[..size])
 }
 
 fn refused(rt: &impl Print, name: &str, input: &[u8]) -> io::Result<()> {
     report(rt, name, input, b"(refused 1)\n")
 }
 
-fn frequencies(rt: &(impl Files + Print + Alloc)) -> io::Result<()> {
+fn frequencies(rt: &(impl Files + Print)) -> io::Result<()> {
     listed(rt, "frequency_1", b"(lattice 1)\n")?;
     listed(rt, "frequency_2", b"(lattice 2)\n")?;
     listed(rt, "frequency_3", b"(lattice 3)\n")?;

@@ -2,9 +2,7 @@
 ghost use Rattle.std.specs.Prelude.{◌≤◌, ◌≡◌, length, take};
 
 use records::Cursor;
-use std::fs::File;
 use std::io;
-use std::io::Read;
 use std::rt::Files;
 
 // The first record that differs and the first that does not are remembered by their numbers, which are their lines'; 0 where there is none.
@@ -53,31 +51,12 @@ impl Tally {
     }
 }
 
-// Reads until the text is full, the input ends or a read fails; how many bytes were read.
-fn read_full<R: Read + Drop>(mut input: R, text: &mut [u8]) -> usize
-    ensures in_bounds { result ≤ length text.new }
-    ensures prefix { result ≡ length (take result text.new) }
-{
-    let mut done = 0;
-    while done < text.len() {
-        match input.read(&mut text[done..]) {
-            Ok(0) => break,
-            Ok(n) => done += n,
-            Err(_) => break,
-        }
-    }
-    done
-}
-
 // How many bytes were read. A file that is missing has none, and one that is too long is cut, which leaves its last record incomplete.
 pub fn read_file(files: &impl Files, name: &str, text: &mut [u8]) -> usize
     ensures in_bounds { result ≤ length text.new }
     ensures prefix { result ≡ length (take result text.new) }
 {
-    match File::open(files, name) {
-        Ok(file) => read_full(file, text),
-        Err(_) => 0,
-    }
+    reading::read_file(files, name, text)
 }
 
 fn print_counts(rt: &impl Print, name: &str, tally: Tally, noun: &str) -> io::Result<()> {
