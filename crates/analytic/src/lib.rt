@@ -140,7 +140,7 @@ fn clamped_floor(n: usize, u: f64) -> u32
 {
     if u > 0.0 {
         if u < 9007199254740992.0 {
-            lesser(std::num::truncating_f64_to_u64(u) as usize, n) as u32
+            lesser(binary64::whole_digits(u) as usize, n) as u32
         } else {
             n as u32
         }

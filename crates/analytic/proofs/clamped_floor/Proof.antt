@@ -1,18 +1,18 @@
 -- `analytic::clamped_floor` meets its contract. Assumes nothing.
-use Rattle.std.proofs.Common.{T, sym, subst, rules}
+use lib.Dec.{T}
 use lib.Ieee.{fits, binary64, of_bits}
 use denote.Floats.{passes}
-use Rattle.binary64.proofs.FloorSteps.{truncation_asks}
 use Rattle.analytic.proofs.ClampedFloor.{floor_truncated, floor_beyond, floor_none}
+use borrow.Author.Rules.{rules}
 use Rattle.analytic.proofs.clamped_floor.Statement.{statement}
 use Rattle.analytic.proofs.clamped_floor.Tie as tie
 
 of_format : (c : tie.Start) → T (fits binary64 c.args.u)
 of_format c = passes (fits binary64 c.args.u) c.well_formed.1.0.1
 
-truncating_f64_to_u64_requires : tie.Need-truncating_f64_to_u64-requires
+whole_digits_requires : tie.Need-whole_digits-requires
 unfolding of_bits
-truncating_f64_to_u64_requires c κs = truncation_asks c.args.u (subst T (sym c.if-u.true) tt) c.if-u-2.true
+whole_digits_requires c κs = (c.if-u.true, c.if-u-2.true)
 
 lesser_requires : tie.Need-lesser-requires
 lesser_requires c κs = search rules
@@ -28,7 +28,7 @@ unfolding of_bits
 returns c =
     let way = c.before.before in
     let start = way.before.before in
-    rw (c.lesser.ensures, c.truncating_f64_to_u64.ensures) (floor_truncated start.args.n start.args.u start.requires (of_format start) way.if-u.true way.if-u-2.true)
+    rw (c.lesser.ensures, c.whole_digits.ensures) (floor_truncated start.args.n start.args.u start.requires (of_format start) way.if-u.true way.if-u-2.true)
 
 returns_2 : tie.Need-returns-else-u-2
 unfolding of_bits
@@ -44,7 +44,7 @@ pub clamped_floor_spec : {M : Type 1} → statement M
 clamped_floor_spec =
     tie.close
     (tie.spec
-    truncating_f64_to_u64_requires
+    whole_digits_requires
     lesser_requires
     cast_result
     cast_result_2
