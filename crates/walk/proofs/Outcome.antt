@@ -31,7 +31,7 @@ mesh_walkable m passed size room =
     let facts = adjacency_facts m passed in
     record {
       rows = rw size facts.rows;
-      ids_below_lem = λ i lt. let r = facts.ids_below_lem i lt in omega arith;
+      ids_below = λ i lt. let r = facts.ids_below_lem i lt in omega arith;
       some = let r = facts.some in omega arith;
       few = let r = facts.few in omega arith;
       room = omega arith;

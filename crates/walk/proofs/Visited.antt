@@ -129,7 +129,7 @@ module _ {starts entries order queue : List ℕ} (h : Walkable starts entries or
   pub walkable_below : (v : ℕ) → v < length order → (x : ℕ) → Memᴰ x (part starts entries v) → x < length order
   walkable_below v lt x m =
       let r = member_get_d x entries 0 (part_member starts entries v x m) in
-      let k = h.ids_below_lem r.0 r.1 in
+      let k = h.ids_below r.0 r.1 in
       omega arith
 
   -- the queue of the walk holds ids, and no entry is read twice
@@ -182,7 +182,7 @@ turn_at {starts} {entries} {order₀} w {k} {reached} {read} {queue} h lt e =
 pub walkable_lengths : {starts entries order queue order₁ queue₁ : List ℕ} → length order₁ ≡ length order → length queue₁ ≡ length queue → Walkable starts entries order queue → Walkable starts entries order₁ queue₁
 walkable_lengths {starts} {entries} e f w = record {
   rows = rw e w.rows;
-  ids_below_lem = λ i lt. let r = w.ids_below_lem i lt in omega arith;
+  ids_below = λ i lt. let r = w.ids_below i lt in omega arith;
   some = let r = w.some in omega arith;
   few = let r = w.few in omega arith;
   room = let r = w.room in omega arith;

@@ -22,7 +22,7 @@ pub record Holding (n : ℕ) (ids old : List ℕ) (reached : ℕ) (order queue :
 -- What the walk asks of the slices that it is lent: neighbour lists of as many vertices as the order has places, ids of these vertices in them, and a queue with no fewer places.
 pub record Walkable (starts entries order queue : List ℕ) : Type 0 where
   pub rows : CompressedRows (length order) starts entries
-  pub ids_below_lem : (i : ℕ) → i < length entries → get_or entries i 0 < length order
+  pub ids_below : (i : ℕ) → i < length entries → get_or entries i 0 < length order
   pub some : 1 ≤ length order
   pub few : length order ≤ unreached
   pub room : length order ≤ length queue

@@ -53,10 +53,10 @@ module _ (h l z : ℕ) (k : TopShift h z) (L : l < 2 ^ 64) where
   high_is = ap (λ (y : ℕ). h * 2 ^ z % 2 ^ 64 + y) (right_in_two_steps l z k.short)
 
   pub two_words_high_lt_in_steps : h * 2 ^ z % 2 ^ 64 + l / 2 / 2 ^ (63 - z) < 2 ^ 64
-  two_words_high_lt_in_steps = lt_of_le_of_lt (le_of_eq high_is) (left_high_lt (2 ^ z) (2 ^ (64 - z)) (2 ^ 64) split (pow_pos z) (pow_pos (64 - z)) h l k.fits L)
+  two_words_high_lt_in_steps = lt_of_le_of_lt (le_of_eq high_is) two_words_high_lt
 
   pub two_words_shifted_in_steps : (h * 2 ^ z % 2 ^ 64 + l / 2 / 2 ^ (63 - z)) * 2 ^ 64 + l * 2 ^ z % 2 ^ 64 ≡ (h * 2 ^ 64 + l) * 2 ^ z
-  two_words_shifted_in_steps = ap (λ (y : ℕ). y * 2 ^ 64 + l * 2 ^ z % 2 ^ 64) high_is ∙ left_value (2 ^ z) (2 ^ (64 - z)) (2 ^ 64) split (pow_pos z) (pow_pos (64 - z)) h l k.fits
+  two_words_shifted_in_steps = ap (λ (y : ℕ). y * 2 ^ 64 + l * 2 ^ z % 2 ^ 64) high_is ∙ two_words_shifted
 
   pub two_words_top_in_steps : 2 ^ 63 ≤ h * 2 ^ z % 2 ^ 64 + l / 2 / 2 ^ (63 - z)
-  two_words_top_in_steps = le_trans (shifted_top h z k) (le-add_right (h * 2 ^ z % 2 ^ 64) (l / 2 / 2 ^ (63 - z)))
+  two_words_top_in_steps = le_trans two_words_top (le_of_eq (sym high_is))
