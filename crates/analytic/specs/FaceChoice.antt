@@ -1,16 +1,14 @@
 -- The choice of a master face. Definitions only.
-use Rattle.std.specs.Prelude.{ℕ, ◌+◌, Bool, true, false, cond, List, [], ◌∷◌, nat_le, slice_index}
+use Rattle.std.specs.Prelude.{ℕ, ◌+◌, Bool, true, false, cond, List, [], ◌∷◌, nat_le, slice_index, Result, Ok, Err}
 use Rattle.binary64.specs.Constants.{positive_zero}
-use Rattle.refusal.specs.declared.Verdict.{Verdict}
-use Rattle.refusal.specs.declared.Verdict.TheVariants.{Passed}
-use Rattle.refusal.specs.Refusal.{refusal, row, answer}
+use Rattle.refusal.specs.declared.Refusal.{Refusal}
+use Rattle.refusal.specs.declared.Refusal.TheVariants.{Flags}
+use Rattle.refusal.specs.Refusal.{Verdict, row, answer}
 use Rattle.vector.specs.declared.Vector3.{Vector3}
 use Rattle.vector.specs.Vector.{vector_sum}
 use Rattle.icosahedron.specs.Icosahedron.{icosahedron_point}
 use Rattle.analytic.specs.declared.Signs.{Signs}
-use Rattle.master_face.specs.declared.Outside.{Outside}
-use Rattle.analytic.specs.declared.FaceChoice.{FaceChoice}
-use Rattle.analytic.specs.declared.FaceChoice.TheVariants.{Refused, Face}
+use Rattle.master_face.specs.declared.Three.{Three}
 use Rattle.master_face.specs.MasterFace.{master_face_of, below_plane, outside_of}
 
 -- `FACE_MAPPING` of the source (000): three symmetry signs give four faces, in the order of its lines.
@@ -32,20 +30,20 @@ abbrev pub flag_weight : Bool → ℕ → ℕ
 flag_weight flag weight = cond flag weight 0
 
 -- Document 01, "Analytic location": "flags weigh 1, 2, 3"
-unfoldable pub flag_sum : Outside → ℕ
+unfoldable pub flag_sum : Three Bool → ℕ
 flag_sum o = flag_weight o.first 1 + flag_weight o.second 2 + flag_weight o.third 3
 
 -- Row 10 refuses "flag sum above 3".
-abbrev pub flags_fit : Outside → Bool
+abbrev pub flags_fit : Three Bool → Bool
 flags_fit o = nat_le (flag_sum o) 3
 
 -- Row 10, and then the next rows.
-abbrev pub flag_row : Outside → Verdict → Verdict
-flag_row o next = row (flags_fit o) (refusal 10) next
+abbrev pub flag_row : Three Bool → Verdict → Verdict
+flag_row o next = row (flags_fit o) Flags next
 
 -- "and the sum picks from `FACE_MAPPING`."
-unfoldable pub choose_face : Signs → Outside → FaceChoice
-choose_face s o = answer (flag_row o Passed) Refused (Face (mapped_face s (flag_sum o)))
+unfoldable pub choose_face : Signs → Three Bool → Result ℕ Refusal
+choose_face s o = answer (flag_row o (Ok tt)) Err (Ok (mapped_face s (flag_sum o)))
 
 -- `symmetry_planes` of the source, `pts[2] + pts[7]`, `pts[3] + pts[4]`, `pts[0] + pts[1]`, and the signs of p there
 unfoldable pub signs_of : Vector3 → Signs
@@ -56,8 +54,8 @@ signs_of p = record {
 }
 
 -- `master_face` of the source: p is held against the side planes of its signs' first face
-unfoldable pub outside_first : Vector3 → Outside
+unfoldable pub outside_first : Vector3 → Three Bool
 outside_first p = outside_of (master_face_of (mapped_face (signs_of p) 0)) p
 
-unfoldable pub face_choice_of : Vector3 → FaceChoice
+unfoldable pub face_choice_of : Vector3 → Result ℕ Refusal
 face_choice_of p = choose_face (signs_of p) (outside_first p)

@@ -1,8 +1,8 @@
 -- The analytic queries, whole. Definitions only.
-use Rattle.std.specs.Prelude.{ℕ, ◌+◌, ◌*◌, Bool, cond, ◌&&◌, List, length, nat_le, nat_lt, slice_index}
-use Rattle.refusal.specs.declared.Verdict.{Verdict}
-use Rattle.refusal.specs.declared.Verdict.TheVariants.{Passed}
-use Rattle.refusal.specs.Refusal.{refusal, row, answer}
+use Rattle.std.specs.Prelude.{ℕ, ◌+◌, ◌*◌, Bool, cond, ◌&&◌, List, length, nat_le, nat_lt, slice_index, Result, Ok, Err}
+use Rattle.refusal.specs.declared.Refusal.{Refusal}
+use Rattle.refusal.specs.declared.Refusal.TheVariants.{Id, Room}
+use Rattle.refusal.specs.Refusal.{Verdict, row, answer}
 use Rattle.binary64.specs.TotalOrder.{rank_of}
 use Rattle.vector.specs.declared.Vector3.{Vector3}
 use Rattle.vector.specs.Direction.{direction_row}
@@ -11,9 +11,7 @@ use Rattle.vector.specs.declared.Triple.{Triple}
 use Rattle.vector.specs.declared.Weights.{Weights}
 use Rattle.analytic.specs.declared.LatticeCoordinates.{LatticeCoordinates}
 use Rattle.analytic.specs.declared.SubTriangle.{SubTriangle}
-use Rattle.analytic.specs.declared.Location.{Location}
-use Rattle.analytic.specs.declared.Location.TheVariants.{Refused, Located}
-use Rattle.analytic.specs.declared.NearestCorner.{NearestCorner}
+use Rattle.analytic.specs.declared.Located.{Located}
 use Rattle.master_face.specs.MasterFace.{master_face_of}
 use Rattle.analytic.specs.FaceChoice.{signs_of, outside_first, flag_sum, flag_row, mapped_face}
 use Rattle.analytic.specs.SubTriangle.{sub_triangle_on, clamped_slot}
@@ -23,30 +21,29 @@ unfoldable pub id_at : ℕ → List ℕ → ℕ → LatticeCoordinates → ℕ
 id_at n ids face q = slice_index ids (face * slots_per_face n + clamped_slot n q)
 
 unfoldable pub corner_ids : ℕ → List ℕ → ℕ → SubTriangle → Triple
-corner_ids n ids face t = record { first = id_at n ids face t.first; second = id_at n ids face t.second; third = id_at n ids face t.third }
+corner_ids n ids face t = record { first = id_at n ids face t.corners.first; second = id_at n ids face t.corners.second; third = id_at n ids face t.corners.third }
 
 -- row 4 lets pass ids below the vertex count
 unfoldable pub triple_below : ℕ → Triple → Bool
 triple_below count t = nat_lt t.first count && nat_lt t.second count && nat_lt t.third count
 
+abbrev pub located : Triple → Weights → Located
+located triple weights = record { triple = triple; weights = weights }
+
 -- the answer on a face: row 4, then the triple and its weights
-unfoldable pub locate_on : ℕ → List ℕ → ℕ → Vector3 → Location
+unfoldable pub locate_on : ℕ → List ℕ → ℕ → Vector3 → Result Located Refusal
 locate_on n ids face p =
     let t = sub_triangle_on n (master_face_of face) p in
     let triple = corner_ids n ids face t in
-    answer (row (triple_below (lattice_vertex_count n) triple) (refusal 4) Passed) Refused (Located triple t.weights)
+    answer (row (triple_below (lattice_vertex_count n) triple) Id (Ok tt)) Err (Ok (located triple t.weights))
 
 -- "An analytic query checks the frequency, the id table's length (8), the direction, 10, then the three ids that it reads (4)." The rows before the last:
 unfoldable pub query_rows : ℕ → List ℕ → Vector3 → Verdict
 query_rows n ids p =
-    frequency_row n (row (nat_le (20 * slots_per_face n) (length ids)) (refusal 8) (direction_row p (flag_row (outside_first p) Passed)))
+    frequency_row n (row (nat_le (20 * slots_per_face n) (length ids)) Room (direction_row p (flag_row (outside_first p) (Ok tt))))
 
-unfoldable pub analytic_locate : ℕ → List ℕ → Vector3 → Location
-analytic_locate n ids p = answer (query_rows n ids p) Refused (locate_on n ids (mapped_face (signs_of p) (flag_sum (outside_first p))) p)
-
--- What rows found, and a triangle, as a location: where the rows refuse, the triangle is no part of it.
-abbrev pub met_location : Verdict → Triple → Weights → Location
-met_location verdict triple weights = answer verdict Refused (Located triple weights)
+unfoldable pub analytic_locate : ℕ → List ℕ → Vector3 → Result Located Refusal
+analytic_locate n ids p = answer (query_rows n ids p) Err (locate_on n ids (mapped_face (signs_of p) (flag_sum (outside_first p))) p)
 
 -- "Nearest is the last corner of greatest weight in total order."
 unfoldable pub last_greatest : Triple → Weights → ℕ
@@ -54,9 +51,9 @@ last_greatest t w =
     cond (nat_le (rank_of w.u) (rank_of w.w) && nat_le (rank_of w.v) (rank_of w.w)) t.third
     (cond (nat_le (rank_of w.u) (rank_of w.v)) t.second t.first)
 
-unfoldable pub corner_of : Location → NearestCorner
-corner_of (Refused reason) = NearestCorner.Refused reason
-corner_of (Located t w) = NearestCorner.Vertex (last_greatest t w)
+unfoldable pub corner_of : Result Located Refusal → Result ℕ Refusal
+corner_of (Err reason) = Err reason
+corner_of (Ok l) = Ok (last_greatest l.triple l.weights)
 
-unfoldable pub analytic_nearest : ℕ → List ℕ → Vector3 → NearestCorner
+unfoldable pub analytic_nearest : ℕ → List ℕ → Vector3 → Result ℕ Refusal
 analytic_nearest n ids p = corner_of (analytic_locate n ids p)

@@ -39,15 +39,11 @@ unfoldable pub sub_triangle : (i j : ℕ) (fu fv fw : Float) → SubTriangle
 sub_triangle i j fu fv fw =
     cond (lt (add binary64 (add binary64 fu fv) fw) orientation_limit)
     (record {
-      first = lattice_coordinates (i + 1) j;
-      second = lattice_coordinates i (j + 1);
-      third = lattice_coordinates i j;
+      corners = record { first = lattice_coordinates (i + 1) j; second = lattice_coordinates i (j + 1); third = lattice_coordinates i j };
       weights = weights fu fv fw;
     })
     (record {
-      first = lattice_coordinates i (j + 1);
-      second = lattice_coordinates (i + 1) j;
-      third = lattice_coordinates (i + 1) (j + 1);
+      corners = record { first = lattice_coordinates i (j + 1); second = lattice_coordinates (i + 1) j; third = lattice_coordinates (i + 1) (j + 1) };
       weights = weights (sub binary64 one fu) (sub binary64 one fv) (sub binary64 one fw);
     })
 

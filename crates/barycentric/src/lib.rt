@@ -11,18 +11,19 @@ use vector::{Vector3, Weights};
 
 // The weights of the point of the triangle a, b, c that is closest to p (Christer Ericson, Real-Time Collision Detection, Morgan Kaufmann 2005, pp. 141–142).
 // The tests ask for the signs of vc, vb and va; the values are worked out in the face region alone.
+#[tactic(auto, using(crate::proofs::Scalars::weights_of_scalars), unfolding(crate::specs::Ericson::region_weights))]
 pub fn projected_barycentric(p: Vector3, a: Vector3, b: Vector3, c: Vector3) -> Weights
     ensures { result ≡ projected_barycentric p a b c }
 {
-    let ab = b.minus(a);
-    let ac = c.minus(a);
-    let ap = p.minus(a);
+    let ab = b - a;
+    let ac = c - a;
+    let ap = p - a;
     let d1 = ab.dot(ap);
     let d2 = ac.dot(ap);
     if (d1 <= 0.0) & (d2 <= 0.0) {
         return Weights::new(1.0, 0.0, 0.0);
     }
-    let bp = p.minus(b);
+    let bp = p - b;
     let d3 = ab.dot(bp);
     let d4 = ac.dot(bp);
     if (d3 >= 0.0) & (d4 <= d3) {
@@ -33,7 +34,7 @@ pub fn projected_barycentric(p: Vector3, a: Vector3, b: Vector3, c: Vector3) -> 
         let v = d1 / (d1 - d3);
         return Weights::new(1.0 - v, v, 0.0);
     }
-    let cp = p.minus(c);
+    let cp = p - c;
     let d5 = ab.dot(cp);
     let d6 = ac.dot(cp);
     if (d6 >= 0.0) & (d5 <= d6) {
@@ -59,6 +60,7 @@ pub fn projected_barycentric(p: Vector3, a: Vector3, b: Vector3, c: Vector3) -> 
 }
 
 // The least of three weights, NaN only where all three are.
+#[tactic(auto, unfolding(crate::specs::LeastWeight::least_weight))]
 pub fn least_weight(t: Weights) -> f64
     ensures { result ≡ least_weight t }
 {

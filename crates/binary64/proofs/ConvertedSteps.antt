@@ -3,7 +3,7 @@ use Rattle.std.proofs.Common.{◌≡◌, ℕ, zero, suc, ◌+◌, ◌-◌, ◌*�
 use mathlib.Core.Bool.{beq, or-true, false≢true}
 use native.Mathlib.Nat.{mod-one}
 use lib.Signed.{le_z}
-use lib.Ieee.{Float, nan, inf, fin, binary64, up, down, round, level, lt, le, eq, ne, is_nan, of_int, to_signed, in_float, fits}
+use lib.Ieee.{Float, nan, inf, fin, binary64, up, down, round, level, lt, le, eq, is_nan, of_int, to_signed, in_float, fits}
 use lib.Ieee.Casts.{to_signed_in}
 use lib.Ieee.Exact.{HasValue}
 use lib.Ieee.Fits.{down_pos}
@@ -13,7 +13,7 @@ use Rattle.binary64.specs.declared.Conversion.TheVariants.{Kept, Cut, Held, NotA
 use Rattle.binary64.specs.declared.Converted.{Converted}
 use Rattle.binary64.specs.Integral.{negative, positive, round_to_integral}
 use Rattle.binary64.specs.Convert.{to_i64, least_of_range, above_range, is_whole, conversion_of, converted_of}
-use Rattle.binary64.proofs.Nan.{not_nan, is_nan_lem}
+use Rattle.binary64.proofs.Nan.{only_nan, same_number}
 use Rattle.binary64.proofs.FloatOrder.{lt_left_number}
 use Rattle.binary64.proofs.Integral.{significand_bound, integral_exact}
 use Rattle.binary64.proofs.ConvertSteps.{held_high, held_low}
@@ -30,13 +30,13 @@ pub below_range : (x : Float) → lt x above_range ≡ true → le least_of_rang
 unfolding converted_of conversion_of to_i64
 below_range x above below = rw (lt_left_number x above_range above, above, below, ← held_low 63 x below above)
 
-pub above_range_lem : (x : Float) → lt x above_range ≡ false → ne x x ≡ false → converted (pos (2 ^ 63 - 1)) Held ≡ converted_of x
+pub above_range_lem : (x : Float) → lt x above_range ≡ false → is_nan x ≡ false → converted (pos (2 ^ 63 - 1)) Held ≡ converted_of x
 unfolding converted_of conversion_of to_i64
-above_range_lem x above number = rw (not_nan x number, above, ← held_high 63 x above number)
+above_range_lem x above number = rw (number, above, ← held_high 63 x above (same_number x number))
 
-pub no_number : (x : Float) → ne x x ≡ true → converted (pos 0) NotANumber ≡ converted_of x
+pub no_number : (x : Float) → is_nan x ≡ true → converted (pos 0) NotANumber ≡ converted_of x
 unfolding converted_of conversion_of to_i64 is_nan
-no_number x h = rw (is_nan_lem x h)
+no_number x h = rw (only_nan x h)
 
 -- ---- in the range: nothing was cut off where the number, as a double again, equals the value
 -- the whole part of a magnitude is a value of the format: rounding toward zero is exact

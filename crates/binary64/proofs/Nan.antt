@@ -1,5 +1,5 @@
 -- What the tests for a NaN tell of x. Assumes nothing.
-use Rattle.std.proofs.Common.{◌≡◌, Bool, true, false, not, T, sym, refl, ap, ◌∙◌, subst, true≢false}
+use Rattle.std.proofs.Common.{◌≡◌, Bool, true, false, T, sym, refl, ap, ◌∙◌, subst, true≢false}
 use mathlib.Core.Bool.{false≢true}
 use lib.Ieee.{Float, nan, inf, fin, ne, is_nan}
 use lib.Ieee.Compare.{differs_from_itself, nan_differs}
@@ -27,7 +27,3 @@ same_number x h = go (ne x x) refl
     go : (b : Bool) → ne x x ≡ b → ne x x ≡ false
     go true e = absurd (true≢false (sym (ap is_nan (is_nan_lem x e)) ∙ h))
     go false e = e
-
--- The same as reading the bits of x asks for it.
-pub no_nan : (x : Float) → ne x x ≡ false → T (not (is_nan x))
-no_nan x h = rw (not_nan x h) tt

@@ -6,7 +6,10 @@ use borrow.Author.Tests.{lt-leb}
 use lib.Pow.{mod-mod-pow}
 use lib.Ieee.{Float, nan, binary64, below, lt, le, fits, is_nan, of_bits, to_bits, nan_bits}
 use lib.Ieee.Bits.{nan_bits_is, nan_bits_above, of_bits-to_bits, to_bits-lt}
-use Rattle.binary64.specs.declared.Ordering.TheVariants.{Less, Equal, Greater}
+use Rattle.std.specs.Ordering.{nat_cmp}
+use Rattle.std.specs.Cmp.{nat_cmp_is}
+use Rattle.std.proofs.lemmas.Bool.{cases_order}
+use Rattle.std.specs.declared.cmp.Ordering.TheVariants.{Less, Equal, Greater}
 use Rattle.binary64.specs.TotalOrder.{is_negative, payload, positive_nan_order, nan_order, number_order, total_order, total_ordering, StrictlyBelow, rank_of_bits, rank_of}
 use Rattle.binary64.proofs.Tests.{Tested, tested, leb_alike}
 use Rattle.binary64.proofs.FloatOrder.{lt_left_number, lt_right_number, lt_asymmetric, le_of_not_lt}
@@ -191,18 +194,15 @@ total_order_transitive x y z a b c h k = ordered x z a c (le_trans (rank_le x y 
 
 -- ---- the answer by cases, by the ranks
 
--- What a comparison of the ranks tells.
-pub total_ordering_less : (x y : ℕ) → x < 2 ^ 64 → y < 2 ^ 64 → rank_of_bits x < rank_of_bits y → total_ordering x y ≡ Less
+-- The ranks are ordered as their data are.
+pub total_ordering_by_rank : (x y : ℕ) → x < 2 ^ 64 → y < 2 ^ 64 → total_ordering x y ≡ nat_cmp (rank_of_bits x) (rank_of_bits y)
 unfolding total_ordering
-total_ordering_less x y a b h = rw (ordered x y a b (le_of_lt h), not_ordered y x b a h)
-
-pub total_ordering_equal : (x y : ℕ) → x < 2 ^ 64 → y < 2 ^ 64 → rank_of_bits x ≡ rank_of_bits y → total_ordering x y ≡ Equal
-unfolding total_ordering
-total_ordering_equal x y a b h = rw (ordered x y a b (le_of_eq h), ordered y x b a (le_of_eq (sym h)))
-
-pub total_ordering_greater : (x y : ℕ) → x < 2 ^ 64 → y < 2 ^ 64 → rank_of_bits y < rank_of_bits x → total_ordering x y ≡ Greater
-unfolding total_ordering
-total_ordering_greater x y a b h = rw (not_ordered x y a b h)
+total_ordering_by_rank x y a b = go (cases_order (rank_of_bits x) (rank_of_bits y))
+  where
+    go : (rank_of_bits x ≡ rank_of_bits y) ⊎ ((rank_of_bits x < rank_of_bits y) ⊎ (rank_of_bits y < rank_of_bits x)) → total_ordering x y ≡ nat_cmp (rank_of_bits x) (rank_of_bits y)
+    go (inl e) = rw (ordered x y a b (le_of_eq e), ordered y x b a (le_of_eq (sym e))) (nat_cmp_is _ _ Equal e)
+    go (inr (inl h)) = rw (ordered x y a b (le_of_lt h), not_ordered y x b a h) (nat_cmp_is _ _ Less h)
+    go (inr (inr h)) = rw (not_ordered x y a b h) (nat_cmp_is _ _ Greater h)
 
 -- ---- strictly below
 

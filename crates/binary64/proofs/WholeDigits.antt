@@ -1,5 +1,5 @@
 -- The whole part of a positive number below 2 ^ 53 is its digits, with the leading one, shifted by what the exponent's field says; below 1 they are shifted out. Assumes nothing.
-use Rattle.std.proofs.Common.{◌≡◌, ℕ, ◌+◌, ◌-◌, ◌*◌, ◌/◌, ◌%◌, ◌^◌, ◌<◌, ◌≤◌, Bool, true, false, not, T, leb, ◌⊎◌, pos, sym, refl, ap, ◌∙◌, subst, inl, inr, lt_of_lt_of_le, le_of_suc-le-suc, mod-lt, mod-eq_of_lt, div-lt_iff_lt-mul, add_comm, le-div_iff_mul-le, arith, pow_pos, pow_mono, ltb-false, ltb-true, leb-false}
+use Rattle.std.proofs.Common.{◌≡◌, ℕ, ◌+◌, ◌-◌, ◌*◌, ◌/◌, ◌%◌, ◌^◌, ◌<◌, ◌≤◌, min, Bool, true, false, not, T, leb, pos, sym, refl, ap, ◌∙◌, subst, lt_of_lt_of_le, le_of_suc-le-suc, mod-lt, mod-eq_of_lt, div-lt_iff_lt-mul, add_comm, le-div_iff_mul-le, arith, pow_pos, pow_mono, ltb-false, ltb-true, leb-false}
 use mathlib.Core.Bool.{false≢true}
 use native.Mathlib.Nat.{div-eq_of_lt}
 use lib.Bits.{bit_and, bit_or, and_mask, or_shifted_r}
@@ -19,10 +19,6 @@ plus_one = fin false 1 (pos 0)
 -- by a mask and an or, as the kit's truncation has them
 digits_masked : (b : ℕ) → bit_or (bit_and b (2 ^ 52 - 1)) (2 ^ 52) ≡ b % 2 ^ 52 + 2 ^ 52
 digits_masked b = ap (λ (k : ℕ). bit_or k (2 ^ 52)) (and_mask b 52) ∙ or_shifted_r 1 52 (b % 2 ^ 52) (mod-lt b (pow_pos 52)) ∙ add_comm (2 ^ 52) (b % 2 ^ 52)
-
--- the shift by the digits of the fraction, and at most by 63
-abbrev pub Shift : ℕ → ℕ → Type 0
-Shift fraction shift = ((fraction < 63) × (shift ≡ fraction)) ⊎ ((63 ≤ fraction) × (shift ≡ 63))
 
 module _ (x : Float) (F : T (fits binary64 x)) (above : lt plus_zero x ≡ true) (under : lt x (fin false 1 (pos 53)) ≡ true) where
   abbrev b : ℕ
@@ -63,15 +59,15 @@ module _ (x : Float) (F : T (fits binary64 x)) (above : lt plus_zero x ≡ true)
   digits_few = omega (arith, mod-lt b (pow_pos 52))
 
   -- below 1 no digit is left
-  pub digits_shifted : (shift : ℕ) → Shift (1075 - b / 2 ^ 52) shift → (b % 2 ^ 52 + 2 ^ 52) / 2 ^ shift ≡ to_unsigned 64 x
+  pub digits_shifted : (shift : ℕ) → shift ≡ min (1075 - b / 2 ^ 52) 63 → (b % 2 ^ 52 + 2 ^ 52) / 2 ^ shift ≡ to_unsigned 64 x
   unfolding is_nan
   digits_shifted shift s = go (lt x plus_one) refl
     where
       long : b / 2 ^ 52 < 1023 → 53 ≤ shift
-      long h = elim s [ inl w ↦ omega (arith, w.0, w.1) | inr w ↦ omega (arith, w.0, w.1) ]
+      long h = omega arith
 
       exact : 1023 ≤ b / 2 ^ 52 → shift ≡ 1075 - b / 2 ^ 52
-      exact h = elim s [ inl w ↦ w.1 | inr w ↦ omega (arith, w.0, w.1) ]
+      exact h = omega arith
 
       go : (small : Bool) → lt x plus_one ≡ small → (b % 2 ^ 52 + 2 ^ 52) / 2 ^ shift ≡ to_unsigned 64 x
       go true h =

@@ -3,8 +3,8 @@ use Rattle.std.specs.Prelude.{◌≡◌, ℕ, ◌+◌, ◌-◌, ◌%◌, ◌^◌
 use Rattle.std.specs.Bool.{beq}
 use Rattle.std.specs.Float.{binary64}
 use Rattle.std.specs.Float.Ieee.{lt, of_bits, to_bits, nan_bits}
-use Rattle.binary64.specs.declared.Ordering.{Ordering}
-use Rattle.binary64.specs.declared.Ordering.TheVariants.{Less, Equal, Greater}
+use Rattle.std.specs.declared.cmp.Ordering.{Ordering}
+use Rattle.std.specs.declared.cmp.Ordering.TheVariants.{Less, Equal, Greater}
 
 -- IEEE 754-2019, 3.4: the sign is the first of the 64 digits.
 abbrev pub is_negative : ℕ → Bool

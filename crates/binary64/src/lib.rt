@@ -11,15 +11,10 @@ ghost use Rattle.binary64.specs.Minimum.{minimum_number};
 ghost use Rattle.binary64.specs.Integral.{floor_of, ceil_of};
 ghost use Rattle.binary64.specs.Convert.{to_i64, least_of_range, above_range, conversion_of, converted_of};
 
-// How one datum stands to another in the total order.
-#[derive(Clone, Copy)]
-pub enum Ordering {
-    Less,
-    Equal,
-    Greater,
-}
+use std::cmp::Ordering;
 
 // The place of a bit pattern among all 2^64 in the total order, counted from 0.
+#[tactic(auto, unfolding(crate::specs::TotalOrder::rank_of_bits))]
 pub fn rank_of_bits(bits: u64) -> u64
     ensures { result ≡ rank_of_bits bits }
 {
@@ -34,25 +29,18 @@ pub fn rank_of_bits(bits: u64) -> u64
 pub fn rank(x: f64) -> u64
     ensures { result ≡ rank_of x }
 {
-    if x != x {
+    if x.is_nan() {
         return rank_of_bits(0x7ff8_0000_0000_0000);
     }
     rank_of_bits(f64::to_bits(x))
 }
 
 // How the datum of the bit pattern x stands to that of y in the total order.
+#[tactic(auto, using(crate::proofs::TotalOrder::total_ordering_by_rank))]
 pub fn total_cmp(x: u64, y: u64) -> Ordering
     ensures { result ≡ total_ordering x y }
 {
-    let rank_x = rank_of_bits(x);
-    let rank_y = rank_of_bits(y);
-    if rank_x < rank_y {
-        Ordering::Less
-    } else if rank_x == rank_y {
-        Ordering::Equal
-    } else {
-        Ordering::Greater
-    }
+    rank_of_bits(x).cmp(&rank_of_bits(y))
 }
 
 // The lesser of two doubles: a NaN is skipped, and −0 is below +0, whichever comes first.
@@ -62,9 +50,9 @@ pub fn minimum_number(x: f64, y: f64) -> f64
     if x == y {
         // One datum, or two zeros: −0 has the lesser rank.
         if rank(y) < rank(x) { y } else { x }
-    } else if x != x {
+    } else if x.is_nan() {
         // The sum of two NaNs is a quiet one (IEEE 754-2019, 6.2), which either alone might not be.
-        if y != y { x + y } else { y }
+        if y.is_nan() { x + y } else { y }
     } else if y < x {
         y
     } else {
@@ -113,20 +101,19 @@ fn whole_part(x: f64) -> f64
 // The whole part of a positive number below 2^53, by its digits with the leading one: the exponent says how many of them are a fraction's, and below 1 all are.
 // No branch tells the numbers below 1 from the others: a caller's may come in any order, and each wrong guess would cost more than the shift.
 pub fn whole_digits(x: f64) -> u64
-    requires fact_1 { lt positive_zero x ≡ true }
-    requires fact_2 { lt x (fin false 1 (pos 53)) ≡ true }
+    requires positive { lt positive_zero x ≡ true }
+    requires with_fraction { lt x (fin false 1 (pos 53)) ≡ true }
     ensures { result ≡ to_unsigned 64 x }
 {
     let bits = f64::to_bits(x);
     let digits = bits % 0x10_0000_0000_0000 + 0x10_0000_0000_0000;
     let fraction = 1075 - bits / 0x10_0000_0000_0000;
     // A shift by 64 or more is not defined, and one by 63 leaves none of the 53 digits.
-    let shift = if fraction < 63 { fraction } else { 63 };
-    digits >> shift
+    digits >> fraction.min(63)
 }
 
 // What became of a value that was converted to a whole number.
-#[derive(Clone, Copy)]
+#[derive(Clone, Copy, Debug, PartialEq, Eq)]
 pub enum Conversion {
     // It is a whole number of the range, and is the result.
     Kept,
@@ -138,8 +125,8 @@ pub enum Conversion {
     NotANumber,
 }
 
-// A converted value, with what became of it.
-#[derive(Clone, Copy)]
+// A converted value, with what became of it. Each case has its number, so a Result or a number within some cases would say less.
+#[derive(Clone, Copy, Debug, PartialEq, Eq)]
 pub struct Converted {
     pub whole: i64,
     pub how: Conversion,
@@ -150,9 +137,9 @@ const NO_FRACTION: i64 = 9007199254740992;
 
 // What became of a value of the range, by the whole number that is left of it. From 2^53 on there is no fraction to cut off.
 fn kept_or_cut(x: f64, whole: i64) -> Conversion
-    requires fact_1 { lt x above_range ≡ true }
-    requires fact_2 { le least_of_range x ≡ true }
-    requires fact_3 { whole ≡ to_i64 x }
+    requires below_end { lt x above_range ≡ true }
+    requires from_least { le least_of_range x ≡ true }
+    requires its_whole { whole ≡ to_i64 x }
     ensures { result ≡ conversion_of x }
 {
     if whole >= NO_FRACTION {
@@ -183,7 +170,7 @@ pub fn to_i64(x: f64) -> Converted
                 how: Conversion::Held,
             }
         }
-    } else if x != x {
+    } else if x.is_nan() {
         Converted {
             whole: 0,
             how: Conversion::NotANumber,

@@ -1,32 +1,33 @@
 -- The listing of a lattice of frequency 1 to 4: it is what the lines make of the mesh and its walk, and it is at most 16,384 bytes long. Assumes nothing.
-use Prim.Native.Nat.{ℕ, zero, suc, ◌+◌, ◌-◌, ◌*◌, ◌≤◌}
+use Prim.Native.Nat.{ℕ, zero, suc, ◌+◌, ◌-◌, ◌*◌, ◌≤◌, ◌<◌}
 use native.Mathlib.Nat.{mul-le-mul}
 use native.Mathlib.Omega.{arith}
 use mathlib.Core.Path.{◌≡◌, ap, ◌∙◌}
-use mathlib.Core.List.{List}
+use mathlib.Core.List.{List, ◌++◌}
 use lib.ListN.{length, take, get_or, length-append}
 use Rattle.sequences.specs.Starts.{part, CompressedRows}
 use Rattle.sequences.proofs.Starts.{part_length}
 use Rattle.sequences.proofs.Tabulate.{take_overwrite}
-use Rattle.refusal.specs.declared.Verdict.TheVariants.{Passed}
-use Rattle.mesh.specs.Mesh.{count, neighbours}
+use Rattle.std.specs.Prelude.{Ok}
+use Rattle.mesh.specs.Mesh.{Mesh, count, neighbours}
 use Rattle.mesh.specs.Rows.{adjacency_rows}
 use Rattle.mesh.proofs.Facts.{adjacency_facts}
 use Rattle.walk.specs.declared.Reach.{Reach}
 use Rattle.walk.specs.Walk.{breadth_first}
 use Rattle.walk.specs.Buffers.{Walkable, Traversed}
-use Rattle.walk.proofs.Queue.{holding_at_most}
+use Rattle.walk.proofs.Queue.{ids_at_most, holding_at_most}
+use Rattle.walk.proofs.Theorems.{queue_ids}
 use Rattle.walk.proofs.Outcome.{mesh_walkable}
 use Rattle.lattice.specs.Lattice.{lattice_mesh}
 use Rattle.lattice.proofs.Counts.{lattice_vertex_count_lem}
 use Rattle.lattice.proofs.Neighbours.{mesh_count}
 use Rattle.lattice.proofs.ListLengths.{lattice_entry_count}
 use Rattle.lattice.proofs.Rows.{lattice_rows}
-use Rattle.bracket_list.specs.LatticeList.{vertex_lines, listing, mesh_listing}
+use Rattle.bracket_list.specs.LatticeList.{head_line, vertex_lines, walk_line, listing, mesh_listing}
 use Rattle.bracket_list.specs.Output.{LatticeRows}
 use Rattle.bracket_list.proofs.Numerals.{length_decimal}
 use Rattle.bracket_list.proofs.Spaces.{length_spaced}
-use Rattle.bracket_list.proofs.Lines.{vertex_size, walk_size, head_size, vertices_none, vertices_suc, listing_size}
+use Rattle.bracket_list.proofs.Lines.{RowAt, row_at, vertex_size, walk_size, head_size, vertices_none, vertices_suc, listing_pieces, listing_size}
 
 -- ---- how long a listing is, with ten digits for each number
 
@@ -64,7 +65,7 @@ listing_limit f n starts entries queue rows =
 -- ---- the lattices that can be listed
 
 pub record Listable (n : ℕ) : Type 0 where
-  pub passed : adjacency_rows (lattice_mesh n) ≡ Passed
+  pub passed : adjacency_rows (lattice_mesh n) ≡ Ok tt
   pub starts_size : length (lattice_mesh n).starts ≡ suc (count (lattice_mesh n))
   pub vertices : count (lattice_mesh n) ≤ 162
   pub entries : length (lattice_mesh n).entries ≤ 960
@@ -85,45 +86,64 @@ listable n lo hi =
 queue_front : {n : ℕ} {lists : ℕ → List ℕ} {old : List ℕ} {reach : Reach} {order queue : List ℕ} → Traversed n lists old reach order queue → take reach.vertices queue ≡ (breadth_first n lists).queue
 queue_front {n} {lists} {old} {reach} {order} {queue} t = ap (take reach.vertices) t.holds.queued ∙ take_overwrite (breadth_first n lists).queue old reach.vertices t.holds.size
 
+-- the lines of a mesh and its walk, one behind another
+module _ (n : ℕ) (m : Mesh) where
+  abbrev walked : List ℕ
+  walked = (breadth_first (count m) (neighbours m)).queue
+
+  pub mesh_pieces : (head_line n (count m) (length m.entries) ++ vertex_lines (count m) (neighbours m)) ++ walk_line walked ≡ mesh_listing n m
+  unfolding mesh_listing
+  mesh_pieces = listing_pieces n (count m) (length m.entries) (neighbours m) walked
+
+  pub mesh_size : length (mesh_listing n m) ≡ length (head_line n (count m) (length m.entries)) + length (vertex_lines (count m) (neighbours m)) + length (walk_line walked)
+  unfolding mesh_listing
+  mesh_size = listing_size n (count m) (length m.entries) (neighbours m) walked
+
+pub listing_fits : (n : ℕ) → 1 ≤ n → n ≤ 4 → length (mesh_listing n (lattice_mesh n)) ≤ 16384
+unfolding mesh_listing neighbours
+listing_fits n lo hi =
+    let listed = listable n lo hi in
+    let m = lattice_mesh n in
+    let once = ids_at_most (queue_ids m listed.passed) in
+    omega (arith, listing_limit n (count m) m.starts m.entries (walked n m) (adjacency_facts m listed.passed).rows, listed.vertices, listed.entries, once)
+
 module _ {n : ℕ} {starts entries : List ℕ} (lent : LatticeRows n starts entries) where
+  abbrev mesh : Mesh
+  mesh = lattice_mesh n
+
   listed : Listable n
   listed = listable n lent.least lent.greatest
 
-  pub count_is : length starts - 1 ≡ count (lattice_mesh n)
+  pub count_is : length starts - 1 ≡ count mesh
   count_is = omega (arith, ap length lent.starts_are, listed.starts_size)
 
   pub starts_some : 1 ≤ length starts
   starts_some = omega (arith, ap length lent.starts_are, listed.starts_size)
 
-  pub few : length starts - 1 ≤ 162
-  few = omega (arith, count_is, listed.vertices)
+  pub few : count mesh ≤ 162
+  few = listed.vertices
 
-  pub lattice_walkable : {order queue : List ℕ} → length order ≡ length starts - 1 → 162 ≤ length queue → Walkable starts entries order queue
-  lattice_walkable size room = rw (lent.starts_are, lent.entries_are) (mesh_walkable (lattice_mesh n) listed.passed (size ∙ count_is) (omega (arith, listed.vertices)))
+  pub entries_few : length entries ≤ 960
+  entries_few = omega (arith, ap length lent.entries_are, listed.entries)
 
-  pub lattice_compressed : CompressedRows (length starts - 1) starts entries
-  lattice_compressed = rw count_is (rw (lent.starts_are, lent.entries_are) (adjacency_facts (lattice_mesh n) listed.passed).rows)
+  compressed : CompressedRows (length starts - 1) starts entries
+  compressed = rw count_is (rw (lent.starts_are, lent.entries_are) (adjacency_facts mesh listed.passed).rows)
 
-  module _ {k : ℕ} {old : List ℕ} {reach : Reach} {order queue : List ℕ} (size : k ≡ length starts - 1) (t : Traversed k (part starts entries) old reach order queue) where
+  -- the row of a vertex lies in the slices, and is the vertex's neighbour list
+  pub row_of : (v : ℕ) → v < count mesh → RowAt (length starts - 1) starts entries v × (part starts entries v ≡ neighbours mesh v)
+  unfolding neighbours
+  row_of v lt = (row_at compressed v (omega (arith, count_is)), rw (lent.starts_are, lent.entries_are))
+
+  pub lattice_walkable : {order queue : List ℕ} → length order ≡ count mesh → 162 ≤ length queue → Walkable starts entries order queue
+  lattice_walkable size room = rw (lent.starts_are, lent.entries_are) (mesh_walkable mesh listed.passed size (omega (arith, few)))
+
+  pub head_is : (vertices : ℕ) → vertices ≡ count mesh → head_line n vertices (length entries) ≡ head_line n (count mesh) (length mesh.entries)
+  head_is vertices e = rw (e, lent.entries_are)
+
+  module _ {k : ℕ} {old : List ℕ} {reach : Reach} {order queue : List ℕ} (size : k ≡ count mesh) (t : Traversed k (part starts entries) old reach order queue) where
     pub reach_few : reach.vertices ≤ 162
     reach_few = omega (arith, holding_at_most t.holds, size, few)
 
-    pub listing_is : listing n (length starts - 1) (length entries) (part starts entries) (take reach.vertices queue) ≡ mesh_listing n (lattice_mesh n)
-    unfolding mesh_listing neighbours
-    listing_is =
-        let counted = size ∙ count_is in
-        let walked = queue_front t in
-        cc (count_is, counted, walked, lent.starts_are, lent.entries_are)
-
-    pub listing_fits : length (listing n (length starts - 1) (length entries) (part starts entries) (take reach.vertices queue)) ≤ 16384
-    listing_fits =
-        omega (
-          arith,
-          listing_limit n (length starts - 1) starts entries (take reach.vertices queue) lattice_compressed,
-          few,
-          ap length lent.entries_are,
-          listed.entries,
-          ap length (queue_front t),
-          t.holds.size,
-          reach_few,
-        )
+    pub walk_is : walk_line (take reach.vertices queue) ≡ walk_line (walked n mesh)
+    unfolding neighbours
+    walk_is = let front = queue_front t in cc (size, front, lent.starts_are, lent.entries_are)

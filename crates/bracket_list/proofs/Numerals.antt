@@ -19,9 +19,9 @@ digits_enough (suc k) n lt = go (ltb n 10) (digits_enough k (n / 10) (omega arit
     go true e = refl
     go false e = ap (λ (l : List ℕ). l ++ ((48 + n % 10) ∷ [])) e
 
-pub decimal_digit : (n : ℕ) → n < 10 → decimal n ≡ (48 + n) ∷ []
+pub decimal_digit : (n : ℕ) → n < 10 → decimal n ≡ (48 + n % 10) ∷ []
 unfolding decimal digits_within
-decimal_digit n lt = rw (lt-ltb n 10 lt) refl
+decimal_digit n lt = let same : n ≡ n % 10 = omega arith in rw (lt-ltb n 10 lt) (ap (λ (digit : ℕ). (48 + digit) ∷ []) same)
 
 pub decimal_more : (n : ℕ) → 10 ≤ n → n < 2 ^ 32 → decimal n ≡ decimal (n / 10) ++ ((48 + n % 10) ∷ [])
 unfolding decimal digits_within

@@ -1,7 +1,7 @@
 -- What the program `lattice-list` reads and prints (document 01, "Lattice of frequency n"). Definitions only.
-use Rattle.std.specs.Prelude.{ℕ, cond, List, [], ◌∷◌, ◌++◌, eqb, length}
+use Rattle.std.specs.Prelude.{ℕ, cond, List, [], ◌∷◌, ◌++◌, Option, Some, None, length}
+use Rattle.std.specs.Str.{bytes_eq}
 use Rattle.sequences.specs.Starts.{concatenate}
-use Rattle.sequences.specs.Equality.{same_numbers}
 use Rattle.mesh.specs.Mesh.{Mesh, count, neighbours}
 use Rattle.walk.specs.Walk.{breadth_first}
 use Rattle.lattice.specs.Lattice.{lattice_mesh}
@@ -60,14 +60,17 @@ refused_line = 40 ∷ 114 ∷ 101 ∷ 102 ∷ 117 ∷ 115 ∷ 101 ∷ 100 ∷ 32
 abbrev pub request : ℕ → List ℕ
 request digit = 40 ∷ 108 ∷ 97 ∷ 116 ∷ 116 ∷ 105 ∷ 99 ∷ 101 ∷ 32 ∷ digit ∷ 41 ∷ 10 ∷ []
 
--- The N that an input asks for; 0 for anything else, as extra bytes, a missing line feed or an early end.
-unfoldable pub requested_frequency : List ℕ → ℕ
+-- The N that an input asks for; none for anything else, as extra bytes, a missing line feed or an early end.
+unfoldable pub requested_frequency : List ℕ → Option ℕ
 requested_frequency input =
-    cond (same_numbers input (request 49)) 1
-    (cond (same_numbers input (request 50)) 2 (cond (same_numbers input (request 51)) 3 (cond (same_numbers input (request 52)) 4 0)))
+    cond (bytes_eq input (request 49)) (Some 1)
+    (cond (bytes_eq input (request 50)) (Some 2) (cond (bytes_eq input (request 51)) (Some 3) (cond (bytes_eq input (request 52)) (Some 4) None)))
+
+-- The lines that answer a request.
+abbrev pub answered_listing : Option ℕ → List ℕ
+answered_listing (Some n) = mesh_listing n (lattice_mesh n)
+answered_listing None = refused_line
 
 -- What the program prints for what it read.
 unfoldable pub lattice_listing : List ℕ → List ℕ
-lattice_listing input =
-    let n = requested_frequency input in
-    cond (eqb n 0) refused_line (mesh_listing n (lattice_mesh n))
+lattice_listing input = answered_listing (requested_frequency input)

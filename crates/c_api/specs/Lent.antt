@@ -6,7 +6,7 @@ use Rattle.walk.specs.Walk.{WalkOutcome}
 use Rattle.renumber.specs.Renumber.{RenumberOutcome}
 use Rattle.c_api.specs.declared.VerdictAnswer.{VerdictAnswer}
 use Rattle.c_api.specs.declared.WalkAnswer.{WalkAnswer}
-use Rattle.c_api.specs.Code.{build_answer, verdict_code, verdict_answer, walk_answer}
+use Rattle.c_api.specs.Code.{build_answer, refusal_code, verdict_answer, walk_answer}
 use Rattle.lattice.specs.Lattice.{LatticeSlices, LatticeOutcome}
 use Rattle.grid.specs.Grid.{GridSlices, BuildOutcome}
 use Rattle.c_api.specs.declared.BuildAnswer.{BuildAnswer}
@@ -57,7 +57,7 @@ abbrev pub lattice_left : ℕ → LatticeSlices → Bool → LatticeLeft
 lattice_left refusal slices mark = record { refusal = refusal; slices = slices; mark = mark }
 
 abbrev pub lattice_left_of : LatticeOutcome → LatticeLeft
-lattice_left_of outcome = lattice_left (verdict_code outcome.answered) outcome.slices outcome.mark
+lattice_left_of outcome = lattice_left (refusal_code outcome.answered) outcome.slices outcome.mark
 
 -- What a call of `koshirga_build_grid` leaves.
 pub record BuildLeft : Type 0 where

@@ -7,21 +7,15 @@ ghost use Rattle.binary64.specs.Integral.{floor_of, ceil_of};
 ghost use Rattle.binary64.specs.Convert.{converted_of};
 ghost use Rattle.fused.specs.Fused.{fused_multiply_add};
 ghost use Rattle.root.specs.Root.{square_root};
-ghost use Rattle.c_api.specs.Code.{ordering_code, conversion_code, conversion_answer};
+ghost use Rattle.c_api.specs.Code.{ordering_code, conversion_answer};
 
 use crate::ConversionAnswer;
-use binary64::{Conversion, Ordering};
 
 // How the datum of the bit pattern x stands to that of y in the total order: -1, 0 or 1.
 pub fn koshirga_total_cmp(x: u64, y: u64) -> i32
     ensures { result ≡ ordering_code (total_ordering x y) }
 {
-    let ordering = binary64::total_cmp(x, y);
-    match ordering {
-        Ordering::Less => -1,
-        Ordering::Equal => 0,
-        Ordering::Greater => 1,
-    }
+    binary64::total_cmp(x, y) as i32
 }
 
 pub fn koshirga_rank(x: f64) -> u64
@@ -48,26 +42,10 @@ pub fn koshirga_ceil(x: f64) -> f64
     binary64::ceil(x)
 }
 
-fn conversion_code(how: Conversion) -> u32
-    ensures { result ≡ conversion_code how }
-{
-    match how {
-        Conversion::Kept => 0,
-        Conversion::Cut => 1,
-        Conversion::Held => 2,
-        Conversion::NotANumber => 3,
-    }
-}
-
 pub fn koshirga_to_i64(x: f64) -> ConversionAnswer
     ensures { result ≡ conversion_answer (converted_of x) }
 {
-    let converted = binary64::to_i64(x);
-    let how = converted.how;
-    ConversionAnswer {
-        whole: converted.whole,
-        how: conversion_code(how),
-    }
+    binary64::to_i64(x).into()
 }
 
 pub fn koshirga_mul_add(a: f64, b: f64, c: f64) -> f64

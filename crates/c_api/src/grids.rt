@@ -11,9 +11,7 @@ ghost use Rattle.c_api.specs.Code.{nearest_answer, located_answer};
 ghost use Rattle.c_api.specs.Lent.{build_left, build_left_of};
 
 use crate::{BuildAnswer, LocatedAnswer, NearestAnswer};
-use grid::Build;
 use grid::settings::Settings;
-use grid_query::{Located, Nearest};
 use vector::Vector3;
 
 // The side of the grid that was written with this factor and margin. After a refusal all slices are as they were.
@@ -30,7 +28,7 @@ pub fn koshirga_build_grid(
 ) -> BuildAnswer
     ensures { build_left result (grid_slices cell_starts.new cell_ids.new triangle_starts.new triples.new) ≡ build_left_of (build_grid (mesh_of positions.now starts.now entries.now) (settings_with factor margin) (grid_slices cell_starts.old cell_ids.old triangle_starts.old triples.old)) }
 {
-    let built = grid::build_grid(
+    let outcome = grid::build_grid(
         positions,
         starts,
         entries,
@@ -40,20 +38,7 @@ pub fn koshirga_build_grid(
         triples,
         Settings { factor, margin },
     );
-    match built {
-        Build::Refused(reason) => BuildAnswer {
-            refusal: reason.number,
-            side: 0,
-            index: reason.index,
-            held: 0,
-        },
-        Build::Built { side, held } => BuildAnswer {
-            refusal: 0,
-            side,
-            index: 0,
-            held,
-        },
-    }
+    outcome.into()
 }
 
 pub fn koshirga_grid_nearest(
@@ -68,7 +53,7 @@ pub fn koshirga_grid_nearest(
 ) -> NearestAnswer
     ensures { (triples : List ℕ) → result ≡ nearest_answer (grid_nearest (lent_grid (settings_with factor margin) side cell_starts.now cell_ids.now triangle_starts.now triples) positions.now direction) }
 {
-    let nearest = grid_query::find_nearest_vertex(
+    let outcome = grid_query::find_nearest_vertex(
         positions,
         Settings { factor, margin },
         side,
@@ -77,26 +62,7 @@ pub fn koshirga_grid_nearest(
         triangle_starts,
         direction,
     );
-    match nearest {
-        Nearest::Refused(reason) => NearestAnswer {
-            refusal: reason.number,
-            id: 0,
-            candidates: 0,
-            distance: 0.0,
-            index: reason.index,
-        },
-        Nearest::Found {
-            id,
-            distance,
-            candidates,
-        } => NearestAnswer {
-            refusal: 0,
-            id: id as u32,
-            candidates,
-            distance,
-            index: 0,
-        },
-    }
+    outcome.into()
 }
 
 pub fn koshirga_grid_locate(
@@ -112,7 +78,7 @@ pub fn koshirga_grid_locate(
 ) -> LocatedAnswer
     ensures { result ≡ located_answer (grid_locate (lent_grid (settings_with factor margin) side cell_starts.now cell_ids.now triangle_starts.now triples.now) positions.now direction) }
 {
-    let located = grid_query::locate(
+    let outcome = grid_query::locate(
         positions,
         Settings { factor, margin },
         side,
@@ -122,32 +88,5 @@ pub fn koshirga_grid_locate(
         triples,
         direction,
     );
-    match located {
-        Located::Refused(reason) => LocatedAnswer {
-            refusal: reason.number,
-            first: 0,
-            second: 0,
-            third: 0,
-            u: 0.0,
-            v: 0.0,
-            w: 0.0,
-            least: 0.0,
-            index: reason.index,
-        },
-        Located::At {
-            triple,
-            weights,
-            least,
-        } => LocatedAnswer {
-            refusal: 0,
-            first: triple.first as u32,
-            second: triple.second as u32,
-            third: triple.third as u32,
-            u: weights.u,
-            v: weights.v,
-            w: weights.w,
-            least,
-            index: 0,
-        },
-    }
+    outcome.into()
 }

@@ -6,10 +6,10 @@ ghost use Rattle.analytic.specs.Location.{analytic_locate, analytic_nearest};
 ghost use Rattle.c_api.specs.Code.{signs_with, outside_with, face_answer, analytic_answer, vertex_answer};
 ghost use Rattle.c_api.specs.Lent.{lattice_left, lattice_left_of};
 
-use crate::{AnalyticAnswer, FaceAnswer, VertexAnswer};
-use analytic::{FaceChoice, Location, Signs};
-use master_face::Outside;
-use refusal::Verdict;
+use crate::{AnalyticAnswer, FaceAnswer, VertexAnswer, refusal_code};
+use analytic::Signs;
+use master_face::Three;
+use refusal::Refusal;
 use vector::Vector3;
 
 pub fn koshirga_choose_face(
@@ -23,64 +23,32 @@ pub fn koshirga_choose_face(
     ensures { result ≡ face_answer (choose_face (signs_with i j k) (outside_with first second third)) }
 {
     let signs = Signs { i, j, k };
-    let outside = Outside {
+    let outside = Three {
         first,
         second,
         third,
     };
-    let choice = analytic::choose_face(signs, outside);
-    match choice {
-        FaceChoice::Refused(reason) => FaceAnswer {
-            refusal: reason.number,
-            face: 0,
-        },
-        FaceChoice::Face(face) => FaceAnswer {
-            refusal: 0,
-            face: face as u32,
-        },
-    }
+    chosen_face(signs, outside).into()
+}
+
+// The face's number as C receives it: there are twenty.
+fn chosen_face(signs: Signs, outside: Three<bool>) -> Result<u32, Refusal>
+    ensures { result ≡ choose_face signs outside }
+{
+    let face = analytic::choose_face(signs, outside)?;
+    Ok(face as u32)
 }
 
 pub fn koshirga_analytic_locate(frequency: u32, ids: &[u16], direction: Vector3) -> AnalyticAnswer
     ensures { result ≡ analytic_answer (analytic_locate frequency ids.now direction) }
 {
-    let location = analytic::locate(frequency, ids, direction);
-    match location {
-        Location::Refused(reason) => AnalyticAnswer {
-            refusal: reason.number,
-            first: 0,
-            second: 0,
-            third: 0,
-            u: 0.0,
-            v: 0.0,
-            w: 0.0,
-        },
-        Location::Located { triple, weights } => AnalyticAnswer {
-            refusal: 0,
-            first: triple.first as u32,
-            second: triple.second as u32,
-            third: triple.third as u32,
-            u: weights.u,
-            v: weights.v,
-            w: weights.w,
-        },
-    }
+    analytic::locate(frequency, ids, direction).into()
 }
 
 pub fn koshirga_analytic_nearest(frequency: u32, ids: &[u16], direction: Vector3) -> VertexAnswer
     ensures { result ≡ vertex_answer (analytic_nearest frequency ids.now direction) }
 {
-    let nearest = analytic::find_nearest_vertex(frequency, ids, direction);
-    match nearest {
-        analytic::NearestCorner::Refused(reason) => VertexAnswer {
-            refusal: reason.number,
-            id: 0,
-        },
-        analytic::NearestCorner::Vertex(id) => VertexAnswer {
-            refusal: 0,
-            id: id as u32,
-        },
-    }
+    analytic::find_nearest_vertex(frequency, ids, direction).into()
 }
 
 // 0 where the lattice was written, and otherwise the refusal's number: then all slices and the mark are as they were.
@@ -94,7 +62,7 @@ pub fn koshirga_lattice(
 ) -> u32
     ensures { lattice_left result (lattice_slices positions.new starts.new entries.new ids.new) lists_ascend.new ≡ lattice_left_of (lattice_geometry frequency (lattice_slices positions.old starts.old entries.old ids.old) lists_ascend.old) }
 {
-    let verdict = lattice::lattice_geometry(
+    let outcome = lattice::lattice_geometry(
         frequency,
         positions,
         starts,
@@ -102,8 +70,5 @@ pub fn koshirga_lattice(
         lists_ascend,
         ids,
     );
-    match verdict {
-        Verdict::Refused(reason) => reason.number,
-        Verdict::Passed => 0,
-    }
+    refusal_code(outcome)
 }

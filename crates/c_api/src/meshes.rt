@@ -7,8 +7,6 @@ ghost use Rattle.renumber.specs.Renumber.{call_of, scratch_of, apply_vertex_perm
 ghost use Rattle.c_api.specs.Lent.{walk_left, walk_left_of, mark_left, mark_left_of, renumber_left, renumber_left_of};
 
 use crate::{VerdictAnswer, WalkAnswer};
-use refusal::Verdict;
-use walk::Walk;
 
 pub fn koshirga_walk(
     positions: &[f64],
@@ -19,19 +17,7 @@ pub fn koshirga_walk(
 ) -> WalkAnswer
     ensures { walk_left result order.new queue.new ≡ walk_left_of (bfs_vertex_permutation (mesh_of positions.now starts.now entries.now) order.old queue.old) }
 {
-    let walk = walk::bfs_vertex_permutation(positions, starts, entries, order, queue);
-    match walk {
-        Walk::Refused(reason) => WalkAnswer {
-            refusal: reason.number,
-            entries_read: 0,
-            index: reason.index,
-        },
-        Walk::Walked(entries_read) => WalkAnswer {
-            refusal: 0,
-            entries_read,
-            index: 0,
-        },
-    }
+    walk::bfs_vertex_permutation(positions, starts, entries, order, queue).into()
 }
 
 // After a refusal the mark is as it was.
@@ -43,17 +29,7 @@ pub fn koshirga_mark_ascending(
 ) -> VerdictAnswer
     ensures { mark_left result lists_ascend.new ≡ mark_left_of (mark_ascending (mesh_of positions.now starts.now entries.now) lists_ascend.old) }
 {
-    let verdict = mesh::mark_ascending(positions, starts, entries, lists_ascend);
-    match verdict {
-        Verdict::Refused(reason) => VerdictAnswer {
-            refusal: reason.number,
-            index: reason.index,
-        },
-        Verdict::Passed => VerdictAnswer {
-            refusal: 0,
-            index: 0,
-        },
-    }
+    mesh::mark_ascending(positions, starts, entries, lists_ascend).into()
 }
 
 // After a refusal all slices and the mark are as they were.
@@ -74,7 +50,7 @@ pub fn koshirga_renumber(
     ensures values_after { renumber_left result (mesh_of positions.new starts.new entries.new) lists_ascend.new values.new ≡ renumber_left_of (apply_vertex_permutation (mesh_of positions.old starts.old entries.old) lists_ascend.old values.old (call_of permutation.now entries_per_vertex (length sources.old ∷ length old_starts.old ∷ length old_entries.old ∷ length done.old ∷ length held.old ∷ []))) }
     ensures held_unchanged { 0 < result.refusal → scratch_of sources.new old_starts.new old_entries.new done.new held.new ≡ scratch_of sources.old old_starts.old old_entries.old done.old held.old }
 {
-    let verdict = renumber::apply_vertex_permutation(
+    let outcome = renumber::apply_vertex_permutation(
         positions,
         starts,
         entries,
@@ -88,14 +64,5 @@ pub fn koshirga_renumber(
         done,
         held,
     );
-    match verdict {
-        Verdict::Refused(reason) => VerdictAnswer {
-            refusal: reason.number,
-            index: reason.index,
-        },
-        Verdict::Passed => VerdictAnswer {
-            refusal: 0,
-            index: 0,
-        },
-    }
+    outcome.into()
 }

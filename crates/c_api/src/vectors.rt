@@ -4,9 +4,10 @@ ghost use Rattle.vector.specs.Vector.{dot_product, cross_product, vector_differe
 ghost use Rattle.vector.specs.Direction.{direction_of};
 ghost use Rattle.barycentric.specs.LeastWeight.{least_weight};
 ghost use Rattle.barycentric.specs.Ericson.{projected_barycentric};
-ghost use Rattle.c_api.specs.Code.{direction_code};
+ghost use Rattle.c_api.specs.Code.{refusal_code};
 
-use vector::{Direction, Vector3, Weights};
+use crate::refusal_code;
+use vector::{Vector3, Weights};
 
 pub fn koshirga_dot(a: Vector3, b: Vector3) -> f64
     ensures { result ≡ dot_product a b }
@@ -23,25 +24,25 @@ pub fn koshirga_cross(a: Vector3, b: Vector3) -> Vector3
 pub fn koshirga_minus(a: Vector3, b: Vector3) -> Vector3
     ensures { result ≡ vector_difference a b }
 {
-    a.minus(b)
+    a - b
 }
 
 pub fn koshirga_plus(a: Vector3, b: Vector3) -> Vector3
     ensures { result ≡ vector_sum a b }
 {
-    a.plus(b)
+    a + b
 }
 
 pub fn koshirga_scale(v: Vector3, factor: f64) -> Vector3
     ensures { result ≡ vector_multiple v factor }
 {
-    v.scale(factor)
+    v * factor
 }
 
 pub fn koshirga_divide(v: Vector3, divisor: f64) -> Vector3
     ensures { result ≡ vector_quotient v divisor }
 {
-    v.divide(divisor)
+    v / divisor
 }
 
 pub fn koshirga_norm_squared(v: Vector3) -> f64
@@ -64,13 +65,9 @@ pub fn koshirga_normalize(v: Vector3) -> Vector3
 
 // 0 where row 9 lets the direction pass, and otherwise 9.
 pub fn koshirga_direction(v: Vector3) -> u32
-    ensures { result ≡ direction_code (direction_of v) }
+    ensures { result ≡ refusal_code (direction_of v) }
 {
-    let direction = Direction::new(v);
-    match direction {
-        Direction::Refused(reason) => reason.number,
-        Direction::Accepted(_) => 0,
-    }
+    refusal_code(v.admitted())
 }
 
 pub fn koshirga_projected_barycentric(p: Vector3, a: Vector3, b: Vector3, c: Vector3) -> Weights

@@ -4,7 +4,7 @@ ghost use Rattle.vector.specs.Vector.{dot_product, cross_product, vector_differe
 ghost use Rattle.vector.specs.Direction.{direction_of};
 ghost use Rattle.barycentric.specs.LeastWeight.{least_weight};
 ghost use Rattle.barycentric.specs.Ericson.{projected_barycentric};
-ghost use Rattle.c_api.specs.Code.{direction_code};
+ghost use Rattle.c_api.specs.Code.{refusal_code};
 
 use vector::{Vector3, Weights};
 
@@ -74,7 +74,7 @@ pub extern "C" fn koshirga_normalize(v: Vector3) -> Vector3
 // 0 where row 9 lets the direction pass, and otherwise 9.
 #[unsafe(no_mangle)]
 pub extern "C" fn koshirga_direction(v: Vector3) -> u32
-    ensures { result ≡ direction_code (direction_of v) }
+    ensures { result ≡ refusal_code (direction_of v) }
 {
     c_api::vectors::koshirga_direction(v)
 }

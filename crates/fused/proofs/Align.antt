@@ -2,7 +2,7 @@
 use mathlib.Core.Path.{◌≡◌, refl, sym, ap, ◌∙◌, subst}
 use mathlib.Core.Logic.{inl, inr}
 use Prim.Native.Nat.{ℕ, suc, ◌+◌, ◌-◌, ◌*◌, ◌/◌, ◌%◌, ◌^◌, ◌≤◌, ◌<◌}
-use native.Mathlib.Nat.{le_trans, le_of_eq, le_of_lt, le-add_right, lt_of_lt_of_le, mul_comm, mul_assoc, mul-le-mul_right, mul-le-mul_left, mul-lt-mul_of_pos_right, add-mul}
+use native.Mathlib.Nat.{le_trans, le_of_eq, le_of_lt, le-add_right, lt_of_lt_of_le, mul_comm, mul_assoc, mul-le-mul_left, mul-lt-mul_of_pos_right, add-mul}
 use native.Mathlib.Omega.{arith}
 use mathlib.Core.Bool.{Bool, true, false, cond}
 use lib.Dec.{ltb, lit<, lit≤}
@@ -108,42 +108,33 @@ align_second f s t X Y v d e b ax ay h sticky =
     subst (λ (z : ℕ). sum f s (X * 2 ^ z) t (v * 2 ^ z) (2 ^ (low f + b)) ≡ sum f s (X * 2 ^ z) t (Y * 2 ^ e) (2 ^ (low f + b))) k (sym (sum_aligned f s t X Y v (d - e) e b ax ay sticky))
 
 -- ---- as a program has the two: u has the upper exponent and l the lower one, and p says whether u is the second
-pub chosen_holds : (P : Scaled → Type 0) (p : Bool) (x y r : Scaled) → r ≡ cond p x y → P x → P y → P r
+pub chosen_holds : {A : Type 0} (P : A → Type 0) (p : Bool) (x y r : A) → r ≡ cond p x y → P x → P y → P r
 chosen_holds P true x y r h hx hy = subst P (sym h) hx
 chosen_holds P false x y r h hx hy = subst P (sym h) hy
 
-pub lower_le : (p : Bool) (x y u l : Scaled) → p ≡ ltb x.exponent y.exponent → u ≡ cond p y x → l ≡ cond p x y → l.exponent ≤ u.exponent
-lower_le p x y u l q h k = subst (λ (z : Scaled). z.exponent ≤ u.exponent) (sym k) (subst (λ (z : Scaled). (cond p x y).exponent ≤ z.exponent) (sym h) (go p q))
-  where
-    go : (p : Bool) → p ≡ ltb x.exponent y.exponent → (cond p x y).exponent ≤ (cond p y x).exponent
-    go true q = le_of_lt (flag_lt true x.exponent y.exponent q refl)
-    go false q = flag_le false x.exponent y.exponent q refl
-
 abbrev magnitude : Scaled → ℕ
-magnitude z = value z.words * 2 ^ z.exponent
+magnitude z = value z.number.words * 2 ^ z.exponent
 
-pub sum_ordered : (f : Format) (p s t n m : Bool) (x y u l : Scaled) (c : ℕ) → 0 < c → u ≡ cond p y x → l ≡ cond p x y → n ≡ cond p t s → m ≡ cond p s t
-    → sum f n (magnitude u) m (magnitude l) c ≡ sum f s (magnitude x) t (magnitude y) c
-sum_ordered f true s t n m x y u l c C h k q r = (λ i. sum f (q i) (magnitude (h i)) (r i) (magnitude (k i)) c) ∙ sum_comm f t s (magnitude y) (magnitude x) c C
-sum_ordered f false s t n m x y u l c C h k q r = λ i. sum f (q i) (magnitude (h i)) (r i) (magnitude (k i)) c
+module _ (p : Bool) (x y u l : Scaled) (upper : u ≡ cond p y x) (lower : l ≡ cond p x y) where
+  pub lower_le : p ≡ ltb x.exponent y.exponent → l.exponent ≤ u.exponent
+  lower_le q = subst (λ (z : Scaled). z.exponent ≤ u.exponent) (sym lower) (subst (λ (z : Scaled). (cond p x y).exponent ≤ z.exponent) (sym upper) (go p q))
+    where
+      go : (p : Bool) → p ≡ ltb x.exponent y.exponent → (cond p x y).exponent ≤ (cond p y x).exponent
+      go true q = le_of_lt (flag_lt true x.exponent y.exponent q refl)
+      go false q = flag_le false x.exponent y.exponent q refl
+
+  pub sum_ordered : (f : Format) (c : ℕ) → 0 < c → sum f u.number.negative (magnitude u) l.number.negative (magnitude l) c ≡ sum f x.number.negative (magnitude x) y.number.negative (magnitude y) c
+  sum_ordered f c C = (λ i. sum f (upper i).number.negative (magnitude (upper i)) (lower i).number.negative (magnitude (lower i)) c) ∙ go p
+    where
+      go : (p : Bool) → sum f (cond p y x).number.negative (magnitude (cond p y x)) (cond p x y).number.negative (magnitude (cond p x y)) c ≡ sum f x.number.negative (magnitude x) y.number.negative (magnitude y) c
+      go true = sum_comm f y.number.negative x.number.negative (magnitude y) (magnitude x) c C
+      go false = refl
 
 pub align_first : (f : Format) (s t : Bool) (X Y v d e b : ℕ) → Alignable X → Alignable Y → d < e → StickyEquivalent 2 (2 ^ (e - d)) X v
     → sum f s (v * 2 ^ e) t (Y * 2 ^ e) (2 ^ (low f + b)) ≡ sum f s (X * 2 ^ d) t (Y * 2 ^ e) (2 ^ (low f + b))
 align_first f s t X Y v d e b ax ay h sticky =
     let C : 0 < 2 ^ (low f + b) = pow_pos (low f + b) in
     sum_comm f s t (v * 2 ^ e) (Y * 2 ^ e) (2 ^ (low f + b)) C ∙ align_second f t s Y X v e d b ay ax (le_of_lt h) sticky ∙ sum_comm f t s (Y * 2 ^ e) (X * 2 ^ d) (2 ^ (low f + b)) C
-
--- ---- the shifted magnitude leaves room for the sum
-pub shifted_lt : (j n v : ℕ) → Alignable n → StickyEquivalent 2 (2 ^ j) n v → v < 2 ^ 126
-shifted_lt j n v an sticky =
-    sticky_lt_back 2 (2 ^ j) n v (lit< tt) (pow_pos j) sticky (2 ^ 125)
-    (lt_of_lt_of_le an.most (mul-le-mul_left (2 ^ 125) (mul-le-mul_right 2 (pow_pos j))))
-
-pub sum_lt : (x y : ℕ) → x < 2 ^ 126 → y < 2 ^ 126 → x + y < 2 ^ 128
-sum_lt x y h k = lt_of_lt_of_le (both x y (2 ^ 126) h k) (lit≤ tt)
-  where
-    both : (x y U : ℕ) → x < U → y < U → x + y < U + U
-    both x y U h k = omega arith
 
 pub alignable_pos : (x : ℕ) → Alignable x → 0 < x
 alignable_pos x h = lt_of_lt_of_le (lit< tt) h.least

@@ -1,10 +1,9 @@
 -- Significands with their top bit set, as an alignable product and an alignable addend. Assumes nothing.
 use mathlib.Core.Path.{◌≡◌, sym, ap, ◌∙◌}
 use Prim.Native.Nat.{ℕ, ◌+◌, ◌*◌, ◌/◌, ◌%◌, ◌^◌, ◌≤◌, ◌<◌}
-use native.Mathlib.Nat.{le_trans, le_of_eq, lt_of_le_of_lt, mul_assoc, mul_right_comm, mul-mul-mul_comm, mul-le-mul, mul-le-mul_right, mul-lt-mul_of_pos_right, mul-mod_left, add-zero}
+use native.Mathlib.Nat.{le_trans, le_of_eq, lt_of_le_of_lt, mul_assoc, mul_right_comm, mul-mul-mul_comm, mul-le-mul, mul-mod_left, add-zero}
 use native.Mathlib.Omega.{arith}
-use lib.Dec.{lit≤}
-use lib.Pow.{pow-add, pow_pos}
+use lib.Pow.{pow-add}
 use Rattle.words.proofs.Product.{mul_lt}
 use Rattle.fused.specs.Operands.{Alignable}
 
@@ -46,13 +45,3 @@ addend_value O n d z h =
     ∙ mul-mul-mul_comm n (2 ^ 62) (2 ^ d) (2 ^ 1076)
     ∙ ap (λ (v : ℕ). v * (2 ^ 62 * 2 ^ 1076)) h
     ∙ mul_assoc O (2 ^ 64) (2 ^ 62 * 2 ^ 1076)
-
-pub addend_alignable : (n : ℕ) → 2 ^ 63 ≤ n → n < 2 ^ 64 → Alignable (n / 4 * 2 ^ 64 + 0)
-addend_alignable n l m =
-    let lo : 2 ^ 61 ≤ n / 4 = omega arith in
-    let hi : n / 4 < 2 ^ 62 = omega arith in
-    let z = add-zero (n / 4 * 2 ^ 64) in record {
-      least = le_trans (le_trans (lit≤ tt) (mul-le-mul_right (2 ^ 64) lo)) (le_of_eq (sym z));
-      most = lt_of_le_of_lt (le_of_eq z) (mul-lt-mul_of_pos_right hi (pow_pos 64));
-      last_bits = ap (λ (v : ℕ). v % 16) (z ∙ sym (mul_assoc (n / 4) (2 ^ 60) 16)) ∙ mul-mod_left (n / 4 * 2 ^ 60) 16;
-    }

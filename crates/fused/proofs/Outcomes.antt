@@ -1,16 +1,14 @@
 -- `sum` of two magnitudes of one exponent e, by the magnitude v that is left, and from the greater and the lesser of the two; and what the tests of signs and of zero say. Over any format. Assumes nothing.
 use mathlib.Core.Path.{◌≡◌, refl, sym, ap, ◌∙◌, subst}
 use mathlib.Core.Logic.{inl, inr}
-use Prim.Native.Nat.{ℕ, zero, suc, ◌+◌, ◌-◌, ◌*◌, ◌^◌, ◌≤◌, ◌<◌}
-use native.Mathlib.Nat.{mul-lt-mul_of_pos_right, mul-pos, add-mul, zero-mul, mul-zero}
+use Prim.Native.Nat.{ℕ, ◌+◌, ◌-◌, ◌*◌, ◌^◌, ◌≤◌, ◌<◌}
+use native.Mathlib.Nat.{mul-lt-mul_of_pos_right, add-mul, zero-mul, mul-zero}
 use native.Mathlib.Omega.{arith}
-use mathlib.Core.Bool.{Bool, true, false, ◌&&◌, ◌||◌, cond, beq, true≢false, false≢true}
+use mathlib.Core.Bool.{Bool, true, false, ◌||◌, cond, beq, true≢false, false≢true}
 use lib.Dec.{T, eqb, ltb, eqb→eq}
 use lib.Pow.{pow_pos}
 use lib.Ieee.{Format, of_bits, round, sum}
 use Rattle.booleans.proofs.Booleans.{true_or_false, signs_equal}
-use Rattle.words.specs.Value.{value}
-use Rattle.words.specs.declared.TwoWords.{TwoWords}
 use Rattle.words.proofs.Order.{flag_lt, flag_le}
 use Rattle.rounding.proofs.Finite.{zero_pattern}
 use Rattle.rounding.proofs.Sum.{sub_mul, sum_same_sign, sum_opposite_lt, sum_opposite_gt, sum_opposite_eq}
@@ -41,9 +39,9 @@ signs_differ true false e h = true≢false h
 signs_differ false true e h = false≢true h
 
 -- ---- the outcome, from the greater of the two, g, and the lesser, l: p says whether the second is the greater
-pub value_chosen : (p : Bool) (x y r : TwoWords) → r ≡ cond p x y → value r ≡ cond p (value x) (value y)
-value_chosen true x y r h = ap (λ (z : TwoWords). value z) h
-value_chosen false x y r h = ap (λ (z : TwoWords). value z) h
+pub value_chosen : {A B : Type 0} (of : A → B) (p : Bool) (x y r : A) → r ≡ cond p x y → of r ≡ cond p (of x) (of y)
+value_chosen of true x y r h = ap of h
+value_chosen of false x y r h = ap of h
 
 module _ (p : Bool) (a b g l : ℕ) (greater : g ≡ cond p b a) (lesser : l ≡ cond p a b) where
   pub lesser_le : p ≡ ltb a b → l ≤ g
@@ -100,28 +98,7 @@ module _ (p : Bool) (a b g l : ℕ) (greater : g ≡ cond p b a) (lesser : l ≡
 zero_of_flag : (a : ℕ) → eqb a 0 ≡ true → a ≡ 0
 zero_of_flag a e = eqb→eq a 0 (subst T (sym e) tt)
 
-positive_of_flag : (a : ℕ) → eqb a 0 ≡ false → 0 < a
-positive_of_flag zero e = absurd (true≢false e)
-positive_of_flag (suc a) e = omega arith
-
--- two words are both 0, or hold a number above 0
-pub words_zero : (P h l : ℕ) → (eqb h 0 && eqb l 0) ≡ true → h * P + l ≡ 0
-words_zero P h l = go (eqb h 0) (eqb l 0) (zero_of_flag h) (zero_of_flag l)
-  where
-    go : (a b : Bool) → (a ≡ true → h ≡ 0) → (b ≡ true → l ≡ 0) → (a && b) ≡ true → h * P + l ≡ 0
-    go true true x y e = let m : h * P ≡ 0 * P = ap (λ (z : ℕ). z * P) (x refl) in let n = y refl in omega arith
-    go true false x y e = absurd (false≢true e)
-    go false b x y e = absurd (false≢true e)
-
-pub words_positive : (P h l : ℕ) → 0 < P → (eqb h 0 && eqb l 0) ≡ false → 0 < h * P + l
-words_positive P h l pos = go (eqb h 0) (eqb l 0) (positive_of_flag h) (positive_of_flag l)
-  where
-    go : (a b : Bool) → (a ≡ false → 0 < h) → (b ≡ false → 0 < l) → (a && b) ≡ false → 0 < h * P + l
-    go true true x y e = absurd (true≢false e)
-    go true false x y e = let n = y refl in omega arith
-    go false b x y e = let m : 0 < h * P = mul-pos (x refl) pos in omega arith
-
--- a factor is 0, or neither is
+-- a factor is 0
 pub product_zero : (m n d e : ℕ) → (eqb m 0 || eqb n 0) ≡ true → m * 2 ^ d * (n * 2 ^ e) ≡ 0
 product_zero m n d e = go (eqb m 0) (eqb n 0) (zero_of_flag m) (zero_of_flag n)
   where
@@ -129,11 +106,3 @@ product_zero m n d e = go (eqb m 0) (eqb n 0) (zero_of_flag m) (zero_of_flag n)
     go true b x y h = ap (λ (z : ℕ). z * 2 ^ d * (n * 2 ^ e)) (x refl) ∙ ap (λ (z : ℕ). z * (n * 2 ^ e)) (zero-mul (2 ^ d)) ∙ zero-mul (n * 2 ^ e)
     go false true x y h = ap (λ (z : ℕ). m * 2 ^ d * (z * 2 ^ e)) (y refl) ∙ ap (λ (z : ℕ). m * 2 ^ d * z) (zero-mul (2 ^ e)) ∙ mul-zero (m * 2 ^ d)
     go false false x y h = absurd (false≢true h)
-
-pub factors_positive : (m n : ℕ) → (eqb m 0 || eqb n 0) ≡ false → (0 < m) × (0 < n)
-factors_positive m n = go (eqb m 0) (eqb n 0) (positive_of_flag m) (positive_of_flag n)
-  where
-    go : (a b : Bool) → (a ≡ false → 0 < m) → (b ≡ false → 0 < n) → (a || b) ≡ false → (0 < m) × (0 < n)
-    go true b x y h = absurd (true≢false h)
-    go false true x y h = absurd (true≢false h)
-    go false false x y h = (x refl, y refl)

@@ -1,10 +1,5 @@
 -- What the steps between unpacking and rounding hand on. Definitions only.
 use Rattle.std.specs.Prelude.{◌≡◌, ℕ, ◌%◌, ◌^◌, ◌≤◌, ◌<◌}
-use Rattle.rounding.specs.declared.Unpacked.{Unpacked}
-
--- An unpacked value of binary64 other than zero.
-abbrev pub Nonzero : Unpacked → Type 0
-Nonzero x = (0 < x.significand) × (x.significand < 2 ^ 53) × (x.exponent < 2046)
 
 -- A magnitude in two words that another may be aligned with and added to: there is room for a carry, the leading bit is at one of two places, and the last four bits are 0.
 -- So a right shift by at most four places is exact, and after a longer one the sum or difference still has all the bits that rounding asks for.

@@ -5,18 +5,17 @@ use Rattle.sequences.specs.Tabulate.{overwrite}
 use Rattle.sequences.specs.Starts.{start_of, starts_of, concatenate}
 use Rattle.sequences.proofs.Starts.{length_concatenate, concatenate_extensional, starts_extensional, flatten_append}
 use Rattle.refusal.specs.declared.Refusal.{Refusal}
-use Rattle.refusal.specs.declared.Verdict.TheVariants.{Passed}
-use Rattle.refusal.specs.declared.Verdict.TheVariants as verdict
-use Rattle.refusal.specs.Refusal.{refusal, row}
+use Rattle.std.specs.Prelude.{Result, Ok, Err}
+use Rattle.refusal.specs.declared.Refusal.TheVariants.{Position, Room}
+use Rattle.refusal.specs.Refusal.{Verdict, row, then}
 use Rattle.mesh.specs.Mesh.{Mesh, count}
-use Rattle.mesh.specs.Rows.{mesh_rows}
+use Rattle.mesh.specs.Rows.{positions_admissible, adjacency_rows, checked_mesh, mesh_rows}
 use Rattle.grid.specs.declared.settings.Settings.{Settings}
-use Rattle.grid.specs.declared.Build.TheVariants.{Refused, Built}
 use Rattle.grid.specs.Settings.{settings_rows}
 use Rattle.grid.specs.Cells.{side_of, cell_count}
 use Rattle.grid.specs.Held.{held_conversions}
 use Rattle.grid.specs.Triangles.{triangles_at}
-use Rattle.grid.specs.Grid.{GridSlices, ids_in, grid_of, grid_slices_fit, build_rows, filled_grid, build_grid}
+use Rattle.grid.specs.Grid.{GridSlices, built, ids_in, grid_of, grid_slices_fit, build_rows, filled_grid, build_grid}
 use Rattle.grid.specs.Passes.{ids_so_far, ids_of_all}
 use Rattle.grid.specs.Builder.{grid_slices, build_outcome}
 use Rattle.grid.proofs.SettingsRows.{settings_refused, settings_passed}
@@ -27,11 +26,33 @@ unfolding concatenate flatten
 flatten_rows zero f = refl
 flatten_rows (suc n) f = flatten_append (concatenate n f) (f n) ∙ ap (λ (l : List _). l ++ flatten (f n)) (flatten_rows n f)
 
--- a pair that row 19 or 20 refuses
-pub build_refused_settings : (m : Mesh) (settings : Settings) (lent : GridSlices) (reason : Refusal) → mesh_rows m ≡ Passed → settings_rows settings Passed ≡ verdict.Refused reason
-    → build_outcome (Refused reason) lent ≡ build_grid m settings lent
+-- a mesh that its rows refuse
+pub build_refused_mesh : (m : Mesh) (settings : Settings) (lent : GridSlices) (reason : Refusal) → mesh_rows m ≡ Err reason → build_outcome (Err reason) lent ≡ build_grid m settings lent
 unfolding build_grid build_rows
-build_refused_settings m settings lent reason passed h = rw (passed, settings_refused settings (row (grid_slices_fit (grid_of m settings) lent) (refusal 8) Passed) reason h) refl
+build_refused_mesh m settings lent reason h = rw h refl
+
+-- one of which no mesh is made, or which is itself where one is
+pub mesh_made : (m made : Mesh) → checked_mesh m ≡ Ok made → (adjacency_rows m ≡ Ok tt) × (m ≡ made)
+unfolding checked_mesh
+mesh_made m made h = go (adjacency_rows m) refl
+  where
+    go : (v : Verdict) → adjacency_rows m ≡ v → (adjacency_rows m ≡ Ok tt) × (m ≡ made)
+    go (Ok tt) e = (e, (let k : ◌≡◌ {A = Result Mesh Refusal} (Ok m) (Ok made) = rw e at h in cc))
+    go (Err reason) e = let k : ◌≡◌ {A = Result Mesh Refusal} (Err reason) (Ok made) = rw e at h in cc
+
+pub mesh_refused : (m : Mesh) (reason : Refusal) → checked_mesh m ≡ Err reason → mesh_rows m ≡ Err reason
+unfolding checked_mesh mesh_rows
+mesh_refused m reason h = go (adjacency_rows m) refl
+  where
+    go : (v : Verdict) → adjacency_rows m ≡ v → then (adjacency_rows m) (row (positions_admissible m.positions) Position (Ok tt)) ≡ Err reason
+    go (Ok tt) e = let k : ◌≡◌ {A = Result Mesh Refusal} (Ok m) (Err reason) = rw e at h in cc
+    go (Err own) e = rw e (let k : ◌≡◌ {A = Result Mesh Refusal} (Err own) (Err reason) = rw e at h in cc)
+
+-- a pair that row 19 or 20 refuses
+pub build_refused_settings : (m : Mesh) (settings : Settings) (lent : GridSlices) (reason : Refusal) → mesh_rows m ≡ Ok tt → settings_rows settings (Ok tt) ≡ Err reason
+    → build_outcome (Err reason) lent ≡ build_grid m settings lent
+unfolding build_grid build_rows
+build_refused_settings m settings lent reason passed h = rw (passed, settings_refused settings (row (grid_slices_fit (grid_of m settings) lent) Room (Ok tt)) reason h) refl
 
 module _ (m : Mesh) (settings : Settings) where
   abbrev g : ℕ
@@ -67,24 +88,24 @@ module _ (m : Mesh) (settings : Settings) where
   room_is cells ids lists triples =
       λ t. leb (cell_starts_length m settings t) (length cells) && (leb (cell_ids_total t) (length ids) && (leb (triangle_starts_length m settings t) (length lists) && leb (triples_total m settings t) (length triples)))
 
-  module _ (passed : mesh_rows m ≡ Passed) (chosen : settings_rows settings Passed ≡ Passed) (lent : GridSlices) where
-    pub build_refused : grid_slices_fit (grid_of m settings) lent ≡ false → build_outcome (Refused (refusal 8)) lent ≡ build_grid m settings lent
+  module _ (passed : mesh_rows m ≡ Ok tt) (chosen : settings_rows settings (Ok tt) ≡ Ok tt) (lent : GridSlices) where
+    pub build_refused : grid_slices_fit (grid_of m settings) lent ≡ false → build_outcome (Err Room) lent ≡ build_grid m settings lent
     unfolding build_grid build_rows
     build_refused e = let both = settings_passed settings chosen in rw (passed, both.0, both.1, e) refl
 
-    build_accepted : grid_slices_fit (grid_of m settings) lent ≡ true → build_outcome (Built g (held_conversions m.positions g)) (filled_grid (grid_of m settings) lent) ≡ build_grid m settings lent
+    build_accepted : grid_slices_fit (grid_of m settings) lent ≡ true → build_outcome (Ok (built g (held_conversions m.positions g))) (filled_grid (grid_of m settings) lent) ≡ build_grid m settings lent
     unfolding build_grid build_rows
     build_accepted e = let both = settings_passed settings chosen in rw (passed, both.0, both.1, e) refl
 
-  pub build_filled : mesh_rows m ≡ Passed → settings_rows settings Passed ≡ Passed → (lent after : GridSlices) → grid_slices_fit (grid_of m settings) lent ≡ true
+  pub build_filled : mesh_rows m ≡ Ok tt → settings_rows settings (Ok tt) ≡ Ok tt → (lent after : GridSlices) → grid_slices_fit (grid_of m settings) lent ≡ true
       → after.cell_starts ≡ overwrite (starts_of (cell_count g) (ids_of_all m.positions settings.margin g)) lent.cell_starts
       → after.cell_ids ≡ overwrite (concatenate (cell_count g) (ids_of_all m.positions settings.margin g)) lent.cell_ids
       → after.triangle_starts ≡ overwrite (starts_of (count m) (triangles_at m)) lent.triangle_starts
       → after.triples ≡ overwrite (flatten (concatenate (count m) (triangles_at m))) lent.triples
-      → build_outcome (Built g (held_conversions m.positions g)) after ≡ build_grid m settings lent
+      → build_outcome (Ok (built g (held_conversions m.positions g))) after ≡ build_grid m settings lent
   unfolding filled_grid
   build_filled passed chosen lent after e a b c d =
-      (λ t. build_outcome (Built g (held_conversions m.positions g)) (grid_slices
+      (λ t. build_outcome (Ok (built g (held_conversions m.positions g))) (grid_slices
       ((a ∙ ap (λ (l : List ℕ). overwrite l lent.cell_starts) (sym cell_starts_are)) t)
       ((b ∙ ap (λ (l : List ℕ). overwrite l lent.cell_ids) (sym cell_ids_are)) t)
       ((c ∙ ap (λ (l : List ℕ). overwrite l lent.triangle_starts) (sym triangle_starts_are)) t)

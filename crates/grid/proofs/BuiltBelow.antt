@@ -8,9 +8,9 @@ use Rattle.mesh.specs.Mesh.{Mesh, count}
 use Rattle.mesh.specs.Rows.{mesh_rows}
 use Rattle.mesh.proofs.Facts.{AdjacencyFacts, mesh_facts}
 use Rattle.grid.specs.declared.settings.Settings.{Settings}
-use Rattle.grid.specs.declared.Build.TheVariants.{Built}
+use Rattle.std.specs.Prelude.{Ok}
 use Rattle.grid.specs.Triangles.{triangles_at}
-use Rattle.grid.specs.Grid.{Grid, GridSlices, ids_in, grid_of, build_rows, build_grid, cut}
+use Rattle.grid.specs.Grid.{Grid, GridSlices, built, ids_in, grid_of, build_rows, build_grid, cut}
 use Rattle.grid.proofs.Cells.{id_placed}
 use Rattle.grid.proofs.Triangles.{triangle_of_member, at_vertex}
 use Rattle.grid.proofs.Grid.{built_rows, cut_build}
@@ -32,10 +32,10 @@ grid_ids_below m settings facts = record {
       (triangle_of_member m facts corner.0 (at_vertex m listed.0 corner.0 corner.1).0).below _ corner.2;
 }
 
-built_adjacency : (m : Mesh) (settings : Settings) (lent : GridSlices) (g held : ℕ) → (build_grid m settings lent).answered ≡ Built g held → AdjacencyFacts m
+built_adjacency : (m : Mesh) (settings : Settings) (lent : GridSlices) (g held : ℕ) → (build_grid m settings lent).answered ≡ Ok (built g held) → AdjacencyFacts m
 unfolding build_rows
 built_adjacency m settings lent g held h = (mesh_facts m (then_passed (mesh_rows m) _ (built_rows m settings lent g held h)).0).adjacency
 
 -- every accepted build: what it wrote is its slices, cut to the grid's lengths
-pub built_below : (m : Mesh) (settings : Settings) (lent : GridSlices) (g held : ℕ) → (build_grid m settings lent).answered ≡ Built g held → BuiltFacts (count m) (cut settings (count m) g (build_grid m settings lent).slices)
+pub built_below : (m : Mesh) (settings : Settings) (lent : GridSlices) (g held : ℕ) → (build_grid m settings lent).answered ≡ Ok (built g held) → BuiltFacts (count m) (cut settings (count m) g (build_grid m settings lent).slices)
 built_below m settings lent g held h = rw (cut_build m settings lent g held h) (grid_ids_below m settings (built_adjacency m settings lent g held h))

@@ -5,15 +5,16 @@ use Rattle.sequences.specs.Tabulate.{overwrite}
 use Rattle.sequences.specs.Starts.{start_of}
 use Rattle.sequences.proofs.Tabulate.{take_overwrite, overwrite_at}
 use Rattle.sequences.proofs.Starts.{length_starts, starts_at, length_concatenate, start_scaled}
-use Rattle.refusal.specs.declared.Verdict.TheVariants.{Passed}
+use Rattle.std.specs.Prelude.{Result, Ok}
 use Rattle.refusal.proofs.Rows.{answer_passed}
 use Rattle.mesh.specs.Mesh.{Mesh, count}
-use Rattle.grid.specs.declared.Build.TheVariants.{Built}
+use Rattle.refusal.specs.declared.Refusal.{Refusal}
+use Rattle.grid.specs.declared.Built.{Built}
 use Rattle.grid.specs.declared.settings.Settings.{Settings}
 use Rattle.grid.specs.Cells.{side_of, cell_count}
 use Rattle.grid.specs.Triangles.{triangles_at}
 use Rattle.grid.specs.Held.{held_conversions}
-use Rattle.grid.specs.Grid.{GridSlices, BuildOutcome, ids_in, grid_of, build_rows, filled_grid, build_grid, cut}
+use Rattle.grid.specs.Grid.{GridSlices, built, BuildOutcome, ids_in, grid_of, build_rows, filled_grid, build_grid, cut}
 use Rattle.grid.proofs.Triangles.{triples_length}
 
 -- ---- the lengths of a grid, and where its starts end
@@ -43,28 +44,31 @@ module _ (m : Mesh) (settings : Settings) where
   triangle_starts_last = ap (λ (k : ℕ). k * 3) (starts_at (count m) (triangles_at m) (count m) (omega arith)) ∙ sym triples_total
 
   -- ---- an accepted call
-  pub built_rows : (lent : GridSlices) (g held : ℕ) → (build_grid m settings lent).answered ≡ Built g held → build_rows m settings lent ≡ Passed
+  pub built_rows : (lent : GridSlices) (g held : ℕ) → (build_grid m settings lent).answered ≡ Ok (built g held) → build_rows m settings lent ≡ Ok tt
   unfolding build_grid
   built_rows lent g held h =
-      answer_passed (λ (o : BuildOutcome). o.answered ≡ Built g held) (build_rows m settings lent) _ _ h
+      answer_passed (λ (o : BuildOutcome). o.answered ≡ Ok (built g held)) (build_rows m settings lent) _ _ h
       (λ reason e. let z : ◌≡◌ {A = ℕ} 0 1 = cc in omega arith)
 
-  module _ (lent : GridSlices) (g held : ℕ) (ok : build_rows m settings lent ≡ Passed) (h : (build_grid m settings lent).answered ≡ Built g held) where
-    built_answer : Built (side_of settings.factor (count m)) (held_conversions m.positions (side_of settings.factor (count m))) ≡ Built g held
+  module _ (lent : GridSlices) (g held : ℕ) (ok : build_rows m settings lent ≡ Ok tt) (h : (build_grid m settings lent).answered ≡ Ok (built g held)) where
+    built_answer : ◌≡◌ {A = Result Built Refusal} (Ok (built (side_of settings.factor (count m)) (held_conversions m.positions (side_of settings.factor (count m))))) (Ok (built g held))
     unfolding build_grid
     built_answer = rw ok at h
 
+    same : built (side_of settings.factor (count m)) (held_conversions m.positions (side_of settings.factor (count m))) ≡ built g held
+    same = let e = built_answer in cc
+
     built_side : g ≡ (grid_of m settings).side
     unfolding grid_of
-    built_side = let e = built_answer in cc
+    built_side = ap (λ (b : Built). b.side) (sym same)
 
     built_count : held ≡ held_conversions m.positions (side_of settings.factor (count m))
-    built_count = let e = built_answer in cc
+    built_count = ap (λ (b : Built). b.held) (sym same)
 
-  pub built_held : (lent : GridSlices) (g held : ℕ) → (build_grid m settings lent).answered ≡ Built g held → held ≡ held_conversions m.positions (side_of settings.factor (count m))
+  pub built_held : (lent : GridSlices) (g held : ℕ) → (build_grid m settings lent).answered ≡ Ok (built g held) → held ≡ held_conversions m.positions (side_of settings.factor (count m))
   built_held lent g held h = built_count lent g held (built_rows lent g held h) h
 
-  built_slices : (lent : GridSlices) → build_rows m settings lent ≡ Passed → (build_grid m settings lent).slices ≡ filled_grid (grid_of m settings) lent
+  built_slices : (lent : GridSlices) → build_rows m settings lent ≡ Ok tt → (build_grid m settings lent).slices ≡ filled_grid (grid_of m settings) lent
   unfolding build_grid
   built_slices lent ok = rw ok refl
 
@@ -87,7 +91,7 @@ module _ (m : Mesh) (settings : Settings) where
       rw (cell-starts, cell-ids, triangle-starts, triples)
       (λ t. record { settings = sym settings_kept t; side = G.side; cell_starts = G.cell_starts; cell_ids = G.cell_ids; triangle_starts = G.triangle_starts; triples = G.triples })
 
-  pub cut_build : (lent : GridSlices) (g held : ℕ) → (build_grid m settings lent).answered ≡ Built g held → cut settings (count m) g (build_grid m settings lent).slices ≡ grid_of m settings
+  pub cut_build : (lent : GridSlices) (g held : ℕ) → (build_grid m settings lent).answered ≡ Ok (built g held) → cut settings (count m) g (build_grid m settings lent).slices ≡ grid_of m settings
   cut_build lent g held h =
       let ok = built_rows lent g held h in
       rw (built_side lent g held ok h, built_slices lent ok) (cut_filled lent)

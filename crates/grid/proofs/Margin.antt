@@ -52,12 +52,12 @@ margin_grows m factor margin wider cell v more h =
 
 -- ---- three faces
 module _ (positions : List Float) (margin g v : ℕ) where
-  abbrev place : (face : ℕ) → (p : Placement) × Placed margin g face (position_of positions v) p × (lt positive_zero (face_projection face (position_of positions v)).d ≡ false → p.end_row ≡ p.first_row)
+  abbrev place : (face : ℕ) → (p : Placement) × Placed margin g face (position_of positions v) p × (lt positive_zero (face_projection face (position_of positions v)).d ≡ false → p.rows.end ≡ p.rows.first)
   place face = some_placement margin g face (position_of positions v)
 
   -- the cells of the vertex on a face
   abbrev area : ℕ → ℕ
-  area face = let p = (place face).0 in (p.end_row - p.first_row) * (p.end_column - p.first_column)
+  area face = let p = (place face).0 in (p.rows.end - p.rows.first) * (p.columns.end - p.columns.first)
 
   area_most : (face : ℕ) → area face ≤ breadth margin * breadth margin
   area_most face = area_few positions margin g v face (place face).0 (place face).1
@@ -65,8 +65,8 @@ module _ (positions : List Float) (margin g v : ℕ) where
   area_none : (face : ℕ) → lt positive_zero (face_projection face (position_of positions v)).d ≡ false → area face ≡ 0
   area_none face behind =
       let p = (place face).0 in
-      let rows : p.end_row - p.first_row ≡ 0 = omega (arith, (place face).2 behind) in
-      ap (λ (k : ℕ). k * (p.end_column - p.first_column)) rows ∙ zero-mul (p.end_column - p.first_column)
+      let rows : p.rows.end - p.rows.first ≡ 0 = omega (arith, (place face).2 behind) in
+      ap (λ (k : ℕ). k * (p.columns.end - p.columns.first)) rows ∙ zero-mul (p.columns.end - p.columns.first)
 
   abbrev total : ℕ → ℕ
   total face = start_of (ids_during positions margin g v (face * (g * g))) (cell_count g)

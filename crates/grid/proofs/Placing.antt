@@ -1,5 +1,5 @@
 -- Laws of placing: which rows and columns are near a converted coordinate. Assumes nothing.
-use Rattle.std.proofs.Common.{◌≡◌, ℕ, suc, ◌+◌, ◌-◌, ◌*◌, ◌/◌, ◌%◌, ◌<◌, ◌≤◌, Bool, true, false, ◌&&◌, ltb, leb, ◌⊎◌, ℤ, pos, negsuc, nat_abs, sym, refl, ap, ◌∙◌, subst, inl, inr, ⊎_elim, true≢false, mul-le-mul_right, mul_assoc, add-mul, arith, ltb-false, ltb-true, le-ltb, le-leb}
+use Rattle.std.proofs.Common.{◌≡◌, ℕ, suc, ◌+◌, ◌-◌, ◌*◌, ◌/◌, ◌%◌, ◌<◌, ◌≤◌, min, Bool, true, false, ◌&&◌, ltb, leb, ◌⊎◌, ℤ, pos, negsuc, nat_abs, sym, refl, ap, ◌∙◌, subst, inl, inr, ⊎_elim, true≢false, mul-le-mul_right, mul_assoc, add-mul, arith, ltb-true, le-ltb, le-leb}
 use native.Mathlib.Decide.{dec_lt}
 use lib.Signed.{lt_z}
 use lib.Ieee.{lt}
@@ -59,6 +59,14 @@ near_none_above margin g k far = record {
   exact = λ c lt. and_alike (lt-leb k (c + margin) (omega arith)) refl ∙ sym (and_alike (lt-leb g c (omega arith)) refl);
 }
 
+-- the lesser of two numbers is one of them
+pub least_end : (end a b : ℕ) → end ≡ min a b → (end ≡ a) ⊎ (end ≡ b)
+least_end end a b e = go (dec_lt a b)
+  where
+    go : Dec (a < b) → (end ≡ a) ⊎ (end ≡ b)
+    go (yes h) = inl (omega arith)
+    go (no h) = inr (omega arith)
+
 -- the end is one behind the margin above k, or the last
 pub near_inside : (margin g k first end : ℕ) → first ≡ k - margin → first ≤ end → end ≤ g → end ≤ k + margin + 1 → ((end ≡ k + margin + 1) ⊎ (end ≡ g)) → Near margin g (pos k) (range first end)
 unfolding near
@@ -98,19 +106,6 @@ pub near_below_tested : (margin g below end : ℕ) (z : ℤ) → margin ≤ grea
 near_below_tested margin g below end (pos a) small h is close inside limit at-end = absurd (let l = ltb-true a 0 h in let y : ⊥ = omega arith in y)
 near_below_tested margin g below end (negsuc k) small h is close inside limit at-end = near_below margin g k end (omega arith) inside (omega arith) (⊎_elim (λ e. inl (omega arith)) (λ e. inr e) at-end)
 
--- a whole number below 0 by the tests that find how far it lies
-pub below_four : (z : ℤ) → lt_z z (negsuc 2) ≡ true → CellsBelow z 4
-below_four (pos a) h = tt
-below_four (negsuc k) h = let l = ltb-true 2 k h in omega arith
-
-pub below_between : (z : ℤ) (d : ℕ) → d < 3 → lt_z z (negsuc (suc d)) ≡ false → lt_z z (negsuc d) ≡ true → CellsBelow z (suc (suc d))
-below_between (pos a) d few h k = tt
-below_between (negsuc b) d few h k = let l = ltb-false (suc d) b h in let m = ltb-true d b k in omega arith
-
-pub below_one : (z : ℤ) → lt_z z (negsuc 0) ≡ false → CellsBelow z 1
-below_one (pos a) h = tt
-below_one (negsuc k) h = let l = ltb-false 0 k h in omega arith
-
 pub not_negative : (z : ℤ) → lt_z z (pos 0) ≡ false → z ≡ pos (nat_abs z)
 not_negative (pos a) h = refl
 not_negative (negsuc a) h = absurd (true≢false h)
@@ -140,7 +135,7 @@ module _ (margin g face i j : ℕ) (li : i < g) (lj : j < g) where
   placed_by_face v = rw (face_of_cell, row_of_cell, column_of_cell) refl
 
 abbrev placement : CellRange → CellRange → ℕ → Placement
-placement rows columns held = record { first_row = rows.first; end_row = rows.end; first_column = columns.first; end_column = columns.end; held = held }
+placement rows columns held = record { rows = rows; columns = columns; held = held }
 
 -- a face that the vertex is in front of
 pub placed_near : (margin g face : ℕ) (v : Vector3) (p : Projected) (rows columns : CellRange) (held : ℕ) → p ≡ face_projection face v → lt positive_zero p.d ≡ true
@@ -175,13 +170,13 @@ placed_nowhere margin g face v p e behind = record {
 }
 
 -- every vertex is placed on every face, without rows on one that it is not in front of
-pub some_placement : (margin g face : ℕ) (v : Vector3) → (p : Placement) × Placed margin g face v p × (lt positive_zero (face_projection face v).d ≡ false → p.end_row ≡ p.first_row)
+pub some_placement : (margin g face : ℕ) (v : Vector3) → (p : Placement) × Placed margin g face v p × (lt positive_zero (face_projection face v).d ≡ false → p.rows.end ≡ p.rows.first)
 some_placement margin g face v = go (lt positive_zero (face_projection face v).d) refl
   where
     seen : Projected
     seen = face_projection face v
 
-    go : (b : Bool) → lt positive_zero seen.d ≡ b → (p : Placement) × Placed margin g face v p × (lt positive_zero seen.d ≡ false → p.end_row ≡ p.first_row)
+    go : (b : Bool) → lt positive_zero seen.d ≡ b → (p : Placement) × Placed margin g face v p × (lt positive_zero seen.d ≡ false → p.rows.end ≡ p.rows.first)
     go true e =
         let rows = near_range margin g (to_i64 (across_cells g seen.u seen.d)) in
         let columns = near_range margin g (to_i64 (across_cells g seen.w seen.d)) in

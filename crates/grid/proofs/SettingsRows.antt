@@ -5,9 +5,9 @@ use lib.Ieee.{Float, nan, inf, fin, binary64, of_bits, to_bits, fits, is_nan, lt
 use lib.Ieee.Bits.{of_bits-to_bits}
 use Rattle.booleans.proofs.Booleans.{and_split}
 use Rattle.refusal.specs.declared.Refusal.{Refusal}
-use Rattle.refusal.specs.declared.Verdict.{Verdict}
-use Rattle.refusal.specs.declared.Verdict.TheVariants.{Passed, Refused}
-use Rattle.refusal.specs.Refusal.{refusal, row, then}
+use Rattle.std.specs.Prelude.{Ok, Err}
+use Rattle.refusal.specs.declared.Refusal.TheVariants.{Factor, Margin}
+use Rattle.refusal.specs.Refusal.{Verdict, row, then}
 use Rattle.refusal.proofs.Rows.{row_passed, row_then}
 use Rattle.grid.specs.declared.settings.Settings.{Settings}
 use Rattle.grid.specs.Settings.{usual_factor, least_factor, greatest_factor, greatest_margin, factor_fits, margin_fits, settings_rows}
@@ -15,18 +15,18 @@ use Rattle.grid.specs.Settings.{usual_factor, least_factor, greatest_factor, gre
 module _ (settings : Settings) where
   pub settings_then : (v next : Verdict) → settings_rows settings (then v next) ≡ then (settings_rows settings v) next
   settings_then v next =
-      ap (row (factor_fits settings.factor) (refusal 19)) (row_then (margin_fits settings.margin) (refusal 20) v next)
-      ∙ row_then (factor_fits settings.factor) (refusal 19) (row (margin_fits settings.margin) (refusal 20) v) next
+      ap (row (factor_fits settings.factor) Factor) (row_then (margin_fits settings.margin) Margin v next)
+      ∙ row_then (factor_fits settings.factor) Factor (row (margin_fits settings.margin) Margin v) next
 
   -- what they refuse is refused whatever comes behind them
-  pub settings_refused : (next : Verdict) (reason : Refusal) → settings_rows settings Passed ≡ Refused reason → settings_rows settings next ≡ Refused reason
-  settings_refused next reason h = settings_then Passed next ∙ ap (λ (v : Verdict). then v next) h
+  pub settings_refused : (next : Verdict) (reason : Refusal) → settings_rows settings (Ok tt) ≡ Err reason → settings_rows settings next ≡ Err reason
+  settings_refused next reason h = settings_then (Ok tt) next ∙ ap (λ (v : Verdict). then v next) h
 
   -- what they let pass
-  pub settings_passed : settings_rows settings Passed ≡ Passed → (factor_fits settings.factor ≡ true) × (margin_fits settings.margin ≡ true)
+  pub settings_passed : settings_rows settings (Ok tt) ≡ Ok tt → (factor_fits settings.factor ≡ true) × (margin_fits settings.margin ≡ true)
   settings_passed h =
-      let factor = row_passed (factor_fits settings.factor) (refusal 19) (row (margin_fits settings.margin) (refusal 20) Passed) h in
-      (factor.0, (row_passed (margin_fits settings.margin) (refusal 20) Passed factor.1).0)
+      let factor = row_passed (factor_fits settings.factor) Factor (row (margin_fits settings.margin) Margin (Ok tt)) h in
+      (factor.0, (row_passed (margin_fits settings.margin) Margin (Ok tt) factor.1).0)
 
   pub margin_small : margin_fits settings.margin ≡ true → settings.margin ≤ greatest_margin
   unfolding margin_fits

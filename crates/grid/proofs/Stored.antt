@@ -3,9 +3,9 @@ use Rattle.std.proofs.Common.{◌≡◌, suc, ◌+◌, ◌*◌, ◌%◌, ◌≤�
 use lib.Ieee.{Float}
 use Rattle.booleans.proofs.Booleans.{and_split}
 use Rattle.refusal.specs.declared.Refusal.{Refusal}
-use Rattle.refusal.specs.declared.Verdict.{Verdict}
-use Rattle.refusal.specs.declared.Verdict.TheVariants.{Passed, Refused}
-use Rattle.refusal.specs.Refusal.{refusal, row, then}
+use Rattle.std.specs.Prelude.{Ok, Err}
+use Rattle.refusal.specs.declared.Refusal.TheVariants.{Count, Factor, Margin, Starts}
+use Rattle.refusal.specs.Refusal.{Verdict, row, then}
 use Rattle.refusal.proofs.Rows.{row_passed, then_passed, row_then}
 use Rattle.mesh.specs.Mesh.{vertex_count}
 use Rattle.mesh.specs.Rows.{greatest_count, positions_fit}
@@ -35,23 +35,23 @@ module _ (grid : Grid) (positions : List Float) where
   pub stored_then : (v next : Verdict) → stored_rows grid positions (then v next) ≡ then (stored_rows grid positions v) next
   stored_then v next =
       let settings = settings_rows grid.settings in
-      let counted = row (positions_fit positions) (refusal 2) in
-      let side = row (side_fits grid positions) (refusal 2) in
-      let starts = row (both_starts_counted grid positions) (refusal 3) in
-      ap (λ (w : Verdict). counted (settings (side w))) (row_then (both_starts_counted grid positions) (refusal 3) v next)
-      ∙ ap (λ (w : Verdict). counted (settings w)) (row_then (side_fits grid positions) (refusal 2) (starts v) next)
+      let counted = row (positions_fit positions) Count in
+      let side = row (side_fits grid positions) Count in
+      let starts = row (both_starts_counted grid positions) Starts in
+      ap (λ (w : Verdict). counted (settings (side w))) (row_then (both_starts_counted grid positions) Starts v next)
+      ∙ ap (λ (w : Verdict). counted (settings w)) (row_then (side_fits grid positions) Count (starts v) next)
       ∙ ap counted (settings_then grid.settings (side (starts v)) next)
-      ∙ row_then (positions_fit positions) (refusal 2) (settings (side (starts v))) next
+      ∙ row_then (positions_fit positions) Count (settings (side (starts v))) next
 
-  pub stored_passed : (next : Verdict) → stored_rows grid positions next ≡ Passed → (stored_rows grid positions Passed ≡ Passed) × (next ≡ Passed)
-  stored_passed next h = then_passed (stored_rows grid positions Passed) next (sym (stored_then Passed next) ∙ h)
+  pub stored_passed : (next : Verdict) → stored_rows grid positions next ≡ Ok tt → (stored_rows grid positions (Ok tt) ≡ Ok tt) × (next ≡ Ok tt)
+  stored_passed next h = then_passed (stored_rows grid positions (Ok tt)) next (sym (stored_then (Ok tt) next) ∙ h)
 
   -- what they refuse is refused whatever comes behind them, and where they let pass the next rows decide
-  pub stored_refused : (next : Verdict) (reason : Refusal) → stored_rows grid positions Passed ≡ Refused reason → stored_rows grid positions next ≡ Refused reason
-  stored_refused next reason h = stored_then Passed next ∙ ap (λ (v : Verdict). then v next) h
+  pub stored_refused : (next : Verdict) (reason : Refusal) → stored_rows grid positions (Ok tt) ≡ Err reason → stored_rows grid positions next ≡ Err reason
+  stored_refused next reason h = stored_then (Ok tt) next ∙ ap (λ (v : Verdict). then v next) h
 
-  pub stored_through : (next : Verdict) → stored_rows grid positions Passed ≡ Passed → stored_rows grid positions next ≡ next
-  stored_through next h = stored_then Passed next ∙ ap (λ (v : Verdict). then v next) h
+  pub stored_through : (next : Verdict) → stored_rows grid positions (Ok tt) ≡ Ok tt → stored_rows grid positions next ≡ next
+  stored_through next h = stored_then (Ok tt) next ∙ ap (λ (v : Verdict). then v next) h
 
 -- ---- what the rows let pass
 pub record StoredFacts (grid : Grid) (positions : List Float) : Type 0 where
@@ -63,14 +63,14 @@ pub record StoredFacts (grid : Grid) (positions : List Float) : Type 0 where
   pub cells_counted : length grid.cell_starts ≡ suc (cell_count grid.side)
   pub vertices_counted : length grid.triangle_starts ≡ suc (vertex_count positions)
 
-pub stored_facts : (grid : Grid) (positions : List Float) → stored_rows grid positions Passed ≡ Passed → StoredFacts grid positions
+pub stored_facts : (grid : Grid) (positions : List Float) → stored_rows grid positions (Ok tt) ≡ Ok tt → StoredFacts grid positions
 unfolding side_fits both_starts_counted
 stored_facts grid positions h =
-    let fits = row_passed (positions_fit positions) (refusal 2) _ h in
-    let factor = row_passed (factor_fits grid.settings.factor) (refusal 19) _ fits.1 in
-    let margin = row_passed (margin_fits grid.settings.margin) (refusal 20) _ factor.1 in
-    let side = row_passed (side_fits grid positions) (refusal 2) _ margin.1 in
-    let counted = row_passed (both_starts_counted grid positions) (refusal 3) Passed side.1 in
+    let fits = row_passed (positions_fit positions) Count _ h in
+    let factor = row_passed (factor_fits grid.settings.factor) Factor _ fits.1 in
+    let margin = row_passed (margin_fits grid.settings.margin) Margin _ factor.1 in
+    let side = row_passed (side_fits grid positions) Count _ margin.1 in
+    let counted = row_passed (both_starts_counted grid positions) Starts (Ok tt) side.1 in
     let lengths = and_split (eqb (length grid.cell_starts) (suc (cell_count grid.side))) (eqb (length grid.triangle_starts) (suc (vertex_count positions))) counted.0 in
     let count = positions_count positions fits.0 in
     let same : grid.side ≡ side_of grid.settings.factor (vertex_count positions) = eqb-true _ _ side.0 in

@@ -1,17 +1,16 @@
 -- The grid of a mesh, and the whole outcome of its builder. Definitions only.
-use Rattle.std.specs.Prelude.{ℕ, suc, ◌*◌, Bool, ◌&&◌, List, length, take, nat_le, slice_index}
+use Rattle.std.specs.Prelude.{ℕ, suc, ◌*◌, Bool, ◌&&◌, List, length, take, nat_le, slice_index, Result, Ok, Err}
 use mathlib.Core.List.{flatten}
 use Rattle.sequences.specs.Tabulate.{overwrite}
 use Rattle.sequences.specs.Starts.{concatenate, starts_of}
 use Rattle.sequences.specs.Filter.{filter_range}
-use Rattle.refusal.specs.declared.Verdict.{Verdict}
-use Rattle.refusal.specs.declared.Verdict.TheVariants.{Passed}
-use Rattle.refusal.specs.Refusal.{refusal, row, then, answer}
+use Rattle.refusal.specs.declared.Refusal.{Refusal}
+use Rattle.refusal.specs.declared.Refusal.TheVariants.{Room}
+use Rattle.refusal.specs.Refusal.{Verdict, row, then, answer}
 use Rattle.mesh.specs.Mesh.{Mesh, count, position_of}
 use Rattle.mesh.specs.Rows.{mesh_rows}
 use Rattle.grid.specs.declared.settings.Settings.{Settings}
-use Rattle.grid.specs.declared.Build.{Build}
-use Rattle.grid.specs.declared.Build.TheVariants.{Refused, Built}
+use Rattle.grid.specs.declared.Built.{Built}
 use Rattle.grid.specs.Settings.{settings_rows}
 use Rattle.grid.specs.Cells.{side_of, cell_count, placed_in}
 use Rattle.grid.specs.Held.{held_conversions}
@@ -56,7 +55,7 @@ grid_slices_fit grid lent =
 
 -- The mesh rows 2 to 5, then 19 and 20, "both just after the mesh rows", then 8.
 unfoldable pub build_rows : Mesh → Settings → GridSlices → Verdict
-build_rows m settings lent = then (mesh_rows m) (settings_rows settings (row (grid_slices_fit (grid_of m settings) lent) (refusal 8) Passed))
+build_rows m settings lent = then (mesh_rows m) (settings_rows settings (row (grid_slices_fit (grid_of m settings) lent) Room (Ok tt)))
 
 -- The slices after an accepted call: "surplus is untouched".
 unfoldable pub filled_grid : Grid → GridSlices → GridSlices
@@ -67,15 +66,18 @@ filled_grid grid lent = record {
   triples = overwrite grid.triples lent.triples;
 }
 
+abbrev pub built : ℕ → ℕ → Built
+built side held = record { side = side; held = held }
+
 -- The whole outcome of a call: its answer, with g and the count of conversions held at an end (W-207) where it is accepted, and the lent slices at exit.
 pub record BuildOutcome : Type 0 where
-  pub answered : Build
+  pub answered : Result Built Refusal
   pub slices : GridSlices
 
 unfoldable pub build_grid : Mesh → Settings → GridSlices → BuildOutcome
 build_grid m settings lent =
-    answer (build_rows m settings lent) (λ reason. record { answered = Refused reason; slices = lent })
-    (record { answered = Built (side_of settings.factor (count m)) (held_conversions m.positions (side_of settings.factor (count m))); slices = filled_grid (grid_of m settings) lent })
+    answer (build_rows m settings lent) (λ reason. record { answered = Err reason; slices = lent })
+    (record { answered = Ok (built (side_of settings.factor (count m)) (held_conversions m.positions (side_of settings.factor (count m)))); slices = filled_grid (grid_of m settings) lent })
 
 -- What was built for n vertices with the side g, "its slices cut to a grid's lengths".
 unfoldable pub cut : Settings → ℕ → ℕ → GridSlices → Grid

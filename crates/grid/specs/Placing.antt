@@ -24,11 +24,11 @@ pub record Near (margin g : ℕ) (z : ℤ) (range : CellRange) : Type 0 where
 
 -- The rows and columns are exactly the cells of the face that the vertex v is placed in, its "surroundings inside the face"; and `held` counts its conversions there that were held at an end.
 pub record Placed (margin g face : ℕ) (v : Vector3) (p : Placement) : Type 0 where
-  pub rows_ordered : p.first_row ≤ p.end_row
-  pub rows_inside : p.end_row ≤ g
-  pub rows_few : p.end_row ≤ p.first_row + breadth margin
-  pub columns_ordered : p.first_column ≤ p.end_column
-  pub columns_inside : p.end_column ≤ g
-  pub columns_few : p.end_column ≤ p.first_column + breadth margin
-  pub exact : (i j : ℕ) → i < g → j < g → placed_in margin g (face * (g * g) + (i * g + j)) v ≡ (within p.first_row p.end_row i && within p.first_column p.end_column j)
+  pub rows_ordered : p.rows.first ≤ p.rows.end
+  pub rows_inside : p.rows.end ≤ g
+  pub rows_few : p.rows.end ≤ p.rows.first + breadth margin
+  pub columns_ordered : p.columns.first ≤ p.columns.end
+  pub columns_inside : p.columns.end ≤ g
+  pub columns_few : p.columns.end ≤ p.columns.first + breadth margin
+  pub exact : (i j : ℕ) → i < g → j < g → placed_in margin g (face * (g * g) + (i * g + j)) v ≡ (within p.rows.first p.rows.end i && within p.columns.first p.columns.end j)
   pub held_exact : p.held ≡ held_on g v face

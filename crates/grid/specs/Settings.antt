@@ -3,8 +3,8 @@ use Rattle.std.specs.Prelude.{ℕ, Bool, false, ◌&&◌, pos, negsuc, nat_le, F
 use Rattle.std.specs.Float.{fin}
 use Rattle.std.specs.Float.Ieee.{le}
 use Rattle.binary64.specs.Constants.{half}
-use Rattle.refusal.specs.declared.Verdict.{Verdict}
-use Rattle.refusal.specs.Refusal.{refusal, row}
+use Rattle.refusal.specs.declared.Refusal.TheVariants.{Factor, Margin}
+use Rattle.refusal.specs.Refusal.{Verdict, row}
 use Rattle.grid.specs.declared.settings.Settings.{Settings}
 
 abbrev pub settings_with : Float → ℕ → Settings
@@ -39,4 +39,4 @@ margin_fits margin = nat_le margin greatest_margin
 
 -- "It refuses with 19 a factor out of range or not finite, then with 20 a margin above 3", and then come the next rows.
 abbrev pub settings_rows : Settings → Verdict → Verdict
-settings_rows settings next = row (factor_fits settings.factor) (refusal 19) (row (margin_fits settings.margin) (refusal 20) next)
+settings_rows settings next = row (factor_fits settings.factor) Factor (row (margin_fits settings.margin) Margin next)

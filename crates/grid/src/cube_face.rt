@@ -15,9 +15,11 @@ pub struct Projected {
 }
 
 // The point as the face shows it.
+#[tactic(auto, unfolding(crate::specs::CubeFace::face_projection))]
 pub fn cube_face_project(face: usize, v: Vector3) -> Projected
     ensures { result ≡ face_projection face v }
 {
+    // By the face's number, as document 01 has it: 0 to 5.
     match face {
         0 => Projected {
             u: v.y,
@@ -52,7 +54,7 @@ pub fn cube_face_project(face: usize, v: Vector3) -> Projected
     }
 }
 
-// The magnitude of a component. A negative zero stays: comparisons don't see its sign.
+// The magnitude of a component, as the datasheet states it and not by the library's `abs`: a negative zero stays, since comparisons don't see its sign.
 fn magnitude(x: f64) -> f64
     ensures { result ≡ (if lt x positive_zero then neg x else x) }
 {

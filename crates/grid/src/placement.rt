@@ -2,13 +2,13 @@
 ghost use Rattle.std.specs.Prelude.{◌≡◌, ◌+◌, ◌*◌, ◌<◌, ◌≤◌};
 ghost use Rattle.binary64.specs.Convert.{converted_of};
 ghost use Rattle.mesh.specs.Rows.{greatest_count};
-ghost use Rattle.grid.specs.Settings.{greatest_margin};
 ghost use Rattle.grid.specs.Passes.{greatest_side};
 ghost use Rattle.grid.specs.Cells.{cell_count, across_cells};
 ghost use Rattle.grid.specs.Held.{held_one};
 ghost use Rattle.grid.specs.Placing.{CellsBelow, Near, Placed};
 
 use crate::cube_face::cube_face_project;
+use crate::extent::Extent;
 use binary64::{Conversion, Converted, to_i64};
 use fused::mul_add_halves;
 use vector::Vector3;
@@ -23,61 +23,28 @@ pub struct CellRange {
 // The cells of a face that a vertex is placed in: rows and columns. And how many of the conversions that gave them were held at an end of the signed range.
 #[derive(Clone, Copy)]
 pub struct Placement {
-    pub first_row: usize,
-    pub end_row: usize,
-    pub first_column: usize,
-    pub end_column: usize,
+    pub rows: CellRange,
+    pub columns: CellRange,
     pub held: usize,
 }
 
-// The third cell before the first one: a margin reaches no further.
-const THIRD_BEFORE: i64 = -3;
-
-// How many cells a coordinate below 0 lies before the first one, 4 for all that lie further. By comparisons alone: no number is negated.
+// How many cells a coordinate below 0 lies before the first one, 4 for all that lie further: no margin reaches from there.
 fn cells_below(coordinate: i64) -> usize
     ensures { CellsBelow coordinate result }
 {
-    if coordinate < THIRD_BEFORE {
-        4
-    } else if coordinate < -2 {
-        3
-    } else if coordinate < -1 {
-        2
-    } else {
-        1
-    }
+    coordinate.unsigned_abs().min(4) as usize
 }
 
-// The rows or columns that are near the converted coordinate, among g of them. Near an end of the signed range there are none.
-fn cells_near(coordinate: i64, margin: usize, g: usize) -> CellRange
-    requires fact_1 { 1 ≤ g }
-    requires fact_2 { g ≤ greatest_count }
-    requires fact_3 { margin ≤ greatest_margin }
-    ensures { Near margin g coordinate result }
+// The number of a cell, from its face, row and column.
+#[inline(always)]
+pub fn cell_number(face: usize, row: usize, column: usize, g: usize) -> usize
+    requires face_number { face < 6 }
+    requires row_inside { row < g }
+    requires column_inside { column < g }
+    requires few_cells { g ≤ greatest_side }
+    ensures { (result ≡ face * (g * g) + (row * g + column)) × (result < cell_count g) }
 {
-    if coordinate < 0 {
-        let below = cells_below(coordinate);
-        if below > margin {
-            return CellRange { first: 0, end: 0 };
-        }
-        let reach = margin + 1 - below;
-        return CellRange {
-            first: 0,
-            end: if reach < g { reach } else { g },
-        };
-    }
-    let cell = coordinate as usize;
-    if cell >= g + margin {
-        return CellRange { first: g, end: g };
-    }
-    CellRange {
-        first: if cell > margin { cell - margin } else { 0 },
-        end: if cell + margin + 1 < g {
-            cell + margin + 1
-        } else {
-            g
-        },
-    }
+    face * (g * g) + (row * g + column)
 }
 
 // How far a point lies across a face of g cells, counted in cells.
@@ -100,55 +67,58 @@ fn cell_across(g: usize, u: f64, d: f64) -> Converted
 fn held_one(how: Conversion) -> usize
     ensures { result ≡ held_one how }
 {
-    match how {
-        Conversion::Kept => 0,
-        Conversion::Cut => 0,
-        Conversion::Held => 1,
-        Conversion::NotANumber => 0,
-    }
+    usize::from(how == Conversion::Held)
 }
 
-// The cells of the face that the vertex is placed in.
-pub(crate) fn place(v: Vector3, face: usize, margin: usize, g: usize) -> Placement
-    requires fact_1 { 1 ≤ g }
-    requires fact_2 { g ≤ greatest_count }
-    requires fact_3 { margin ≤ greatest_margin }
-    ensures { Placed margin g face v result }
-{
-    let seen = cube_face_project(face, v);
-    if seen.d > 0.0 {
-        let row = cell_across(g, seen.u, seen.d);
-        let column = cell_across(g, seen.w, seen.d);
-        let rows = cells_near(row.whole, margin, g);
-        let columns = cells_near(column.whole, margin, g);
-        let row_how = row.how;
-        let column_how = column.how;
-        let held = held_one(row_how) + held_one(column_how);
-        Placement {
-            first_row: rows.first,
-            end_row: rows.end,
-            first_column: columns.first,
-            end_column: columns.end,
-            held,
+impl Extent {
+    // The rows or columns that are near the converted coordinate. Near an end of the signed range there are none.
+    fn cells_near(self, coordinate: i64) -> CellRange
+        ensures { Near self.margin self.side coordinate result }
+    {
+        if coordinate < 0 {
+            let below = cells_below(coordinate);
+            if below > self.margin {
+                return CellRange { first: 0, end: 0 };
+            }
+            let reach = self.margin + 1 - below;
+            return CellRange {
+                first: 0,
+                end: reach.min(self.side),
+            };
         }
-    } else {
-        Placement {
-            first_row: 0,
-            end_row: 0,
-            first_column: 0,
-            end_column: 0,
-            held: 0,
+        let cell = coordinate as usize;
+        if cell >= self.side + self.margin {
+            return CellRange {
+                first: self.side,
+                end: self.side,
+            };
+        }
+        let reach = cell + self.margin + 1;
+        CellRange {
+            first: cell.saturating_sub(self.margin),
+            end: reach.min(self.side),
         }
     }
-}
 
-// The number of a cell, from its face, row and column.
-pub fn cell_number(face: usize, row: usize, column: usize, g: usize) -> usize
-    requires fact_1 { face < 6 }
-    requires fact_2 { row < g }
-    requires fact_3 { column < g }
-    requires fact_4 { g ≤ greatest_side }
-    ensures { (result ≡ face * (g * g) + (row * g + column)) × (result < cell_count g) }
-{
-    face * (g * g) + (row * g + column)
+    // The cells of the face that the vertex is placed in.
+    pub(crate) fn place(self, v: Vector3, face: usize) -> Placement
+        ensures { Placed self.margin self.side face v result }
+    {
+        let seen = cube_face_project(face, v);
+        if seen.d > 0.0 {
+            let row = cell_across(self.side, seen.u, seen.d);
+            let column = cell_across(self.side, seen.w, seen.d);
+            Placement {
+                rows: self.cells_near(row.whole),
+                columns: self.cells_near(column.whole),
+                held: held_one(row.how) + held_one(column.how),
+            }
+        } else {
+            Placement {
+                rows: CellRange { first: 0, end: 0 },
+                columns: CellRange { first: 0, end: 0 },
+                held: 0,
+            }
+        }
+    }
 }

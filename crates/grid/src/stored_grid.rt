@@ -1,79 +1,97 @@
 // The rows of a stored grid, which a query tests before it reads a part of it.
-ghost use Rattle.std.specs.Prelude.{◌≡◌, ℕ, true, List};
-ghost use Rattle.refusal.specs.declared.Verdict.TheVariants.{Passed};
+ghost use Rattle.std.specs.Prelude.{◌≡◌, true, Ok};
 ghost use Rattle.mesh.specs.Rows.{positions_fit};
 ghost use Rattle.grid.specs.Settings.{factor_fits};
-ghost use Rattle.grid.specs.Stored.{lent_grid, side_rows, stored_rows};
+ghost use Rattle.grid.specs.Stored.{side_rows, stored_rows};
 
-use crate::settings::{Settings, check_settings};
-use crate::side::{side_is, usual_side_is};
+use crate::settings::Settings;
+use crate::side::VertexCount;
 use mesh::{positions_fit, vertex_count};
-use refusal::{Refusal, Verdict};
+use refusal::Refusal;
+use std::marker::Model;
 
-// Rows 2 and 3 of a stored grid, behind those of its pair: the side, then the lengths of both start lists.
-fn check_side(
-    positions: &[f64],
-    settings: Settings,
-    g: usize,
-    cell_starts: &[u32],
-    triangle_starts: &[u32],
-) -> Verdict
-    requires fact_1 { positions_fit positions.now ≡ true }
-    requires fact_2 { factor_fits settings.factor ≡ true }
-    ensures { (cell_ids triples : List ℕ) → result ≡ side_rows (lent_grid settings g cell_starts.now cell_ids triangle_starts.now triples) positions.now Passed }
-{
-    let count = vertex_count(positions);
-    if !side_is(g, settings.factor, count) {
-        return Verdict::Refused(Refusal::new(2));
-    }
-    if !((cell_starts.len() == 6 * (g * g) + 1) & (triangle_starts.len() == count + 1)) {
-        return Verdict::Refused(Refusal::new(3));
-    }
-    Verdict::Passed
+// A stored grid as a query is lent it, beside the positions. A contract sees it as a `Grid`.
+#[derive(Drop)]
+pub struct StoredGrid<'a> {
+    pub settings: Settings,
+    pub side: usize,
+    pub cell_starts: &'a [u32],
+    pub cell_ids: &'a [u16],
+    pub triangle_starts: &'a [u32],
+    pub triples: &'a [u16],
 }
 
-// Rows 2, 19, 20, 2 and 3 of a stored grid, which come before a part of it is read. Neither ids nor triples matter to them.
-pub fn check_stored(
-    positions: &[f64],
-    settings: Settings,
-    g: usize,
-    cell_starts: &[u32],
-    triangle_starts: &[u32],
-) -> Verdict
-    ensures { (cell_ids triples : List ℕ) → result ≡ stored_rows (lent_grid settings g cell_starts.now cell_ids triangle_starts.now triples) positions.now Passed }
-{
-    if !positions_fit(positions) {
-        return Verdict::Refused(Refusal::new(2));
-    }
-    let pair = check_settings(settings);
-    match pair {
-        Verdict::Refused(reason) => Verdict::Refused(reason),
-        Verdict::Passed => check_side(positions, settings, g, cell_starts, triangle_starts),
-    }
+impl<'a> Model for StoredGrid<'a> {
+    ghost use Rattle.grid.specs.Grid.{Grid};
+    ghost use Rattle.grid.specs.Stored.{lent_grid};
+
+    ghost Value = { Grid };
+
+    ghost view = { λ g. lent_grid g.settings g.side g.cell_starts.now g.cell_ids.now g.triangle_starts.now g.triples.now };
 }
 
-// Whether a stored grid of the usual factor passes these rows; where it says no, `check_stored` finds the row. It is short and takes no root, so that a query of a usual grid isn't held up by a call.
-pub fn usual_passes(
-    positions: &[f64],
-    settings: Settings,
-    g: usize,
-    cell_starts: &[u32],
-    triangle_starts: &[u32],
-) -> bool
-    ensures { result ≡ true → (cell_ids triples : List ℕ) → stored_rows (lent_grid settings g cell_starts.now cell_ids triangle_starts.now triples) positions.now Passed ≡ Passed }
-{
-    if !positions_fit(positions) {
-        return false;
+impl<'a> StoredGrid<'a> {
+    ghost use Rattle.std.specs.Prelude.{◌≡◌, ◌+◌, ◌≤◌, ◌&&◌, ◌==◌, length};
+    ghost use Rattle.mesh.specs.Rows.{greatest_count};
+    ghost use Rattle.grid.specs.Cells.{cell_count};
+    ghost use Rattle.grid.specs.Passes.{greatest_side};
+
+    // Whether both start lists are as long as the side and the count ask for.
+    #[inline(always)]
+    fn lengths_fit(&self, count: usize) -> bool
+        requires few_cells { self.now.side ≤ greatest_side }
+        requires few_vertices { count ≤ greatest_count }
+        ensures { result ≡ ((length self.now.cell_starts == cell_count self.now.side + 1) && (length self.now.triangle_starts == count + 1)) }
+    {
+        let side = self.side;
+        (self.cell_starts.len() == 6 * (side * side) + 1)
+            & (self.triangle_starts.len() == count + 1)
     }
-    if !((settings.factor <= 4.0) & (settings.margin <= 3)) {
-        return false;
+
+    // Rows 2 and 3, behind those of the pair: the side, then the lengths of both start lists.
+    fn check_side(&self, positions: &[f64]) -> Result<(), Refusal>
+        requires positions_fit { positions_fit positions.now ≡ true }
+        requires factor_fits { factor_fits self.now.settings.factor ≡ true }
+        ensures { result ≡ side_rows self.now positions.now (Ok tt) }
+    {
+        let count = vertex_count(positions);
+        let side = self.side;
+        if !(VertexCount { count }).side_is(side, self.settings.factor) {
+            return Err(Refusal::Count);
+        }
+        if !self.lengths_fit(count) {
+            return Err(Refusal::Starts);
+        }
+        Ok(())
     }
-    if f64::to_bits(settings.factor) != 0x3ff3_3333_3333_3333 {
-        return false;
+
+    // Rows 2, 19, 20, 2 and 3, which come before a part of the grid is read. Neither ids nor triples matter to them.
+    pub fn check(&self, positions: &[f64]) -> Result<(), Refusal>
+        ensures { result ≡ stored_rows self.now positions.now (Ok tt) }
+    {
+        if !positions_fit(positions) {
+            return Err(Refusal::Count);
+        }
+        self.settings.check()?;
+        self.check_side(positions)
     }
-    let count = vertex_count(positions);
-    if !usual_side_is(g, count) {
-        return false;
+
+    // Whether a stored grid of the usual factor passes these rows; where it says no, `check` finds the row. It is short and takes no root, so that a query of a usual grid isn't held up by a call.
+    #[inline(always)]
+    pub fn usual_passes(&self, positions: &[f64]) -> bool
+        ensures { result ≡ true → stored_rows self.now positions.now (Ok tt) ≡ Ok tt }
+    {
+        if !positions_fit(positions) {
+            return false;
+        }
+        if !self.settings.is_usual() {
+            return false;
+        }
+        let count = vertex_count(positions);
+        let side = self.side;
+        if !(VertexCount { count }).usual_side_is(side) {
+            return false;
+        }
+        self.lengths_fit(count)
     }
-    (cell_starts.len() == 6 * (g * g) + 1) & (triangle_starts.len() == count + 1)
 }

@@ -11,8 +11,8 @@ use Rattle.sequences.specs.Ascending.{Ascending, sort}
 use Rattle.sequences.proofs.Range.{all_below_intro}
 use Rattle.sequences.proofs.Tabulate.{get_d_member}
 use Rattle.sequences.proofs.Ascending.{length_sort, sort_members}
-use Rattle.refusal.specs.declared.Verdict.TheVariants.{Passed}
-use Rattle.refusal.specs.Refusal.{refusal, refusal_at}
+use Rattle.std.specs.Prelude.{Ok}
+use Rattle.refusal.specs.declared.Refusal.TheVariants.{Starts, StartsFall, Direction, EmptyCell}
 use Rattle.refusal.proofs.Rows.{row_passed}
 use Rattle.vector.specs.declared.Vector3.{Vector3}
 use Rattle.vector.specs.Vector.{normalized}
@@ -78,20 +78,20 @@ module _ (m : Mesh) (settings : Settings) where
       all_below_intro _ (length ids) (λ i lt. lt-ltb (get_or ids i 0) (count m) (candidate_below cell (get_or ids i 0) (get_d_member ids i 0 lt)))
 
 -- ---- a query that the rows let pass
-pub passed_direction : (m : Mesh) (settings : Settings) (direction : Vector3) → cell_rows (grid_of m settings) m.positions direction ≡ Passed → admissible direction ≡ true
+pub passed_direction : (m : Mesh) (settings : Settings) (direction : Vector3) → cell_rows (grid_of m settings) m.positions direction ≡ Ok tt → admissible direction ≡ true
 unfolding cell_rows
-passed_direction m settings direction h = (row_passed (admissible direction) (refusal 9) _ (stored_passed (grid_of m settings) m.positions _ h).1).0
+passed_direction m settings direction h = (row_passed (admissible direction) Direction _ (stored_passed (grid_of m settings) m.positions _ h).1).0
 
-pub passed_some : (m : Mesh) (settings : Settings) (direction : Vector3) → cell_rows (grid_of m settings) m.positions direction ≡ Passed
+pub passed_some : (m : Mesh) (settings : Settings) (direction : Vector3) → cell_rows (grid_of m settings) m.positions direction ≡ Ok tt
     → 0 < length (candidates (grid_of m settings) (cell_of_query (grid_of m settings) direction))
 unfolding cell_rows
 passed_some m settings direction h =
     let grid = grid_of m settings in
     let cell = cell_of_query grid direction in
-    let admitted = row_passed (admissible direction) (refusal 9) _ (stored_passed grid m.positions _ h).1 in
-    let ascends = row_passed (not_falling grid.cell_starts cell) (refusal_at 18 (suc cell)) _ admitted.1 in
-    let within = row_passed (part_within grid.cell_starts (length grid.cell_ids) cell) (refusal 3) _ ascends.1 in
-    ltb-true 0 (length (candidates grid cell)) (row_passed (ltb 0 (length (candidates grid cell))) (refusal 11) _ within.1).0
+    let admitted = row_passed (admissible direction) Direction _ (stored_passed grid m.positions _ h).1 in
+    let ascends = row_passed (not_falling grid.cell_starts cell) (StartsFall (suc cell)) _ admitted.1 in
+    let within = row_passed (part_within 1 grid.cell_starts (length grid.cell_ids) cell) Starts _ ascends.1 in
+    ltb-true 0 (length (candidates grid cell)) (row_passed (ltb 0 (length (candidates grid cell))) EmptyCell _ within.1).0
 
 -- ---- a mesh and the mesh renumbered
 module _ (m m₁ : Mesh) (settings : Settings) {p b : ℕ → ℕ} (r : Renumbered m m₁ p b) where

@@ -1,9 +1,9 @@
 -- A direction's cell is one of the grid's. Assumes nothing.
-use Rattle.std.proofs.Common.{ℕ, ◌+◌, ◌*◌, ◌^◌, ◌<◌, ◌≤◌, Bool, true, false, cond, ◌&&◌, mul-le-mul_right, mul-le-mul, arith, lit≤}
-use lib.Ieee.{lt, le}
+use Rattle.std.proofs.Common.{◌≡◌, ℕ, ◌+◌, ◌*◌, ◌^◌, ◌<◌, ◌≤◌, Bool, true, false, cond, ◌&&◌, mul-le-mul_right, arith, lit≤}
+use lib.Ieee.{Float, lt, le}
 use Rattle.binary64.specs.Absolute.{abs}
 use Rattle.vector.specs.declared.Vector3.{Vector3}
-use Rattle.mesh.specs.Rows.{greatest_count}
+use Rattle.grid.specs.Passes.{greatest_side}
 use Rattle.binary64.specs.Constants.{positive_zero}
 use Rattle.grid.specs.CubeFace.{face_projection, dominant_face}
 use Rattle.grid.specs.Cells.{cell_count, across_cells}
@@ -25,13 +25,12 @@ face_at_most v =
     face_of_six (le (abs v.y) (abs v.x) && le (abs v.z) (abs v.x)) (le (abs v.z) (abs v.y))
     (lt positive_zero v.x) (lt positive_zero v.y) (lt positive_zero v.z)
 
--- what is added up to a cell's number fits a word by far
-pub cell_parts : (g face ci : ℕ) → g ≤ greatest_count → face ≤ 5 → ci < g → (g * g ≤ 2 ^ 32) × (face * (g * g) ≤ 5 * 2 ^ 32) × (ci * g ≤ 2 ^ 32)
-cell_parts g face ci h f i =
-    let square : g * g ≤ greatest_count * greatest_count = mul-le-mul h h in
-    let faces : face * (g * g) ≤ 5 * (greatest_count * greatest_count) = mul-le-mul f square in
-    let row : ci * g ≤ greatest_count * greatest_count = mul-le-mul (let k : ci ≤ greatest_count = omega arith in k) h in
-    (square, faces, row)
+-- the face, the row and the column are there
+pub cell_fits : (g : ℕ) (direction : Vector3) (x y : Float) (face ci cj : ℕ) → 0 < g → g ≤ greatest_side
+    → face ≡ dominant_face direction → ci ≡ clamped_cell g x → cj ≡ clamped_cell g y → (face < 6) × (ci < g) × (cj < g)
+cell_fits g direction x y face ci cj p h f i j =
+    let k : face ≤ 5 = rw f (face_at_most direction) in
+    (omega (arith, k), rw i (clamped_below g x p (omega arith)), rw j (clamped_below g y p (omega arith)))
 
 pub cell_below : (g : ℕ) (direction : Vector3) → 0 < g → g ≤ 2 ^ 53 → cell_of g direction < cell_count g
 unfolding cell_of

@@ -4,6 +4,7 @@ use mathlib.Core.Bool.{false≢true}
 use lib.Ieee.{Float, nan, inf, fin, up, down, lt, le, to_unsigned, is_nan, of_bits}
 use lib.Ieee.Fits.{down_pos}
 use lib.Ieee.Exact.{HasValue}
+use lib.Ieee.Order.{le_of_values}
 use Rattle.binary64.proofs.FloatOrder.{lt_not_le, le_of_not_lt}
 use Rattle.binary64.proofs.LessThan.{lt_le}
 use Rattle.binary64.proofs.WholeNumbers.{whole_value, whole_converted, to_unsigned_monotone}
@@ -52,6 +53,11 @@ clamp_at_most n x h = go (lt x positive_zero) (lt (whole n) x) refl
     go true t e = zero_at_most n
     go false true e = value_at_most n (whole n) (whole_value n h)
     go false false e = not_above_at_most n (whole n) x (whole_value n h) e
+
+-- the ends are in their order
+pub zero_below_whole : (n : ℕ) → n ≤ 2 ^ 53 → T (le positive_zero (whole n))
+unfolding of_bits
+zero_below_whole n few = le_of_values positive_zero (whole n) 0 1 n 1 (omega arith) (omega arith) (refl, refl) (whole_value n few) (omega arith)
 
 pub at_most_converts : (w n : ℕ) (x : Float) → AtMost n x → to_unsigned w x ≤ n
 unfolding to_unsigned

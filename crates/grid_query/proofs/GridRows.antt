@@ -1,18 +1,18 @@
 -- What rows 2, 19, 20, 2, 3 and 9 tell of a lent grid: `grid_facts`, and that the query's cell is one of its cells: `query_cell_inside`. Assumes nothing.
-use Rattle.std.proofs.Common.{◌≡◌, ◌+◌, ◌<◌, Bool, true, List, length, ap, ◌∙◌, arith}
+use Rattle.std.proofs.Common.{◌≡◌, ℕ, ◌+◌, ◌<◌, Bool, true, false, List, length, refl, ap, ◌∙◌, arith}
 use lib.Ieee.{Float}
 use Rattle.refusal.specs.declared.Refusal.{Refusal}
-use Rattle.refusal.specs.declared.Verdict.{Verdict}
-use Rattle.refusal.specs.declared.Verdict.TheVariants.{Passed, Refused}
-use Rattle.refusal.specs.Refusal.{refusal, row, then}
+use Rattle.std.specs.Prelude.{Result, Ok, Err}
+use Rattle.refusal.specs.declared.Refusal.TheVariants.{Direction}
+use Rattle.refusal.specs.Refusal.{Verdict, row, then, answer}
 use Rattle.refusal.proofs.Rows.{row_passed, row_then}
 use Rattle.vector.specs.declared.Vector3.{Vector3}
 use Rattle.vector.specs.Vector.{normalized}
-use Rattle.vector.specs.Direction.{admissible, direction_row}
+use Rattle.vector.specs.Direction.{admissible, direction_row, direction_of}
 use Rattle.grid.specs.Cells.{cell_count}
 use Rattle.grid.specs.Grid.{Grid}
 use Rattle.grid.specs.Stored.{stored_rows}
-use Rattle.grid.proofs.Stored.{StoredFacts, stored_facts, stored_then, stored_passed, stored_through}
+use Rattle.grid.proofs.Stored.{StoredFacts, stored_facts, stored_then, stored_passed, stored_refused, stored_through}
 use Rattle.grid_query.specs.Cell.{cell_of_query, grid_rows, candidate_rows, cell_rows}
 use Rattle.grid_query.proofs.CellBound.{cell_below}
 
@@ -21,12 +21,12 @@ pub record GridFacts (grid : Grid) (positions : List Float) (direction : Vector3
   pub stored : StoredFacts grid positions
   pub admitted : admissible direction ≡ true
 
-pub grid_facts : (grid : Grid) (positions : List Float) (direction : Vector3) → grid_rows grid positions direction Passed ≡ Passed → GridFacts grid positions direction
+pub grid_facts : (grid : Grid) (positions : List Float) (direction : Vector3) → grid_rows grid positions direction (Ok tt) ≡ Ok tt → GridFacts grid positions direction
 grid_facts grid positions direction h =
-    let rows = stored_passed grid positions (direction_row direction Passed) h in
+    let rows = stored_passed grid positions (direction_row direction (Ok tt)) h in
     record {
       stored = stored_facts grid positions rows.0;
-      admitted = (row_passed (admissible direction) (refusal 9) Passed rows.1).0;
+      admitted = (row_passed (admissible direction) Direction (Ok tt) rows.1).0;
     }
 
 -- the part of the query's cell has both its starts
@@ -40,19 +40,39 @@ query_cell_inside grid positions direction facts =
 module _ (grid : Grid) (positions : List Float) (direction : Vector3) where
   grid_rows_then : (v next : Verdict) → grid_rows grid positions direction (then v next) ≡ then (grid_rows grid positions direction v) next
   grid_rows_then v next =
-      ap (stored_rows grid positions) (row_then (admissible direction) (refusal 9) v next) ∙ stored_then grid positions (direction_row direction v) next
+      ap (stored_rows grid positions) (row_then (admissible direction) Direction v next) ∙ stored_then grid positions (direction_row direction v) next
 
   -- the stored grid passes, and so does the direction
-  pub grid_rows_passed : stored_rows grid positions Passed ≡ Passed → admissible direction ≡ true → grid_rows grid positions direction Passed ≡ Passed
-  grid_rows_passed h admitted = stored_through grid positions (direction_row direction Passed) h ∙ ap (λ (b : Bool). row b (refusal 9) Passed) admitted
+  pub grid_rows_passed : stored_rows grid positions (Ok tt) ≡ Ok tt → admissible direction ≡ true → grid_rows grid positions direction (Ok tt) ≡ Ok tt
+  grid_rows_passed h admitted = stored_through grid positions (direction_row direction (Ok tt)) h ∙ ap (λ (b : Bool). row b Direction (Ok tt)) admitted
+
+  -- rows 2, 19, 20, 2 and 3 refuse, or row 9 behind them
+  pub grid_rows_refused : (reason : Refusal) → stored_rows grid positions (Ok tt) ≡ Err reason → grid_rows grid positions direction (Ok tt) ≡ Err reason
+  grid_rows_refused reason h = stored_refused grid positions (direction_row direction (Ok tt)) reason h
+
+  pub direction_refused : stored_rows grid positions (Ok tt) ≡ Ok tt → (reason : Refusal) → direction_of direction ≡ Err reason → grid_rows grid positions direction (Ok tt) ≡ Err reason
+  unfolding direction_of
+  direction_refused h reason r = stored_through grid positions (direction_row direction (Ok tt)) h ∙ tells (admissible direction) r
+    where
+      tells : (b : Bool) → ◌≡◌ {A = Result Vector3 Refusal} (answer (row b Direction (Ok tt)) Err (Ok direction)) (Err reason) → row b Direction (Ok tt) ≡ Err reason
+      tells true e = absurd (let z : ◌≡◌ {A = ℕ} 0 1 = cc in omega arith)
+      tells false e = cc
+
+  pub direction_passed : stored_rows grid positions (Ok tt) ≡ Ok tt → (v : Vector3) → direction_of direction ≡ Ok v → grid_rows grid positions direction (Ok tt) ≡ Ok tt
+  unfolding direction_of
+  direction_passed h v r = stored_through grid positions (direction_row direction (Ok tt)) h ∙ tells (admissible direction) r
+    where
+      tells : (b : Bool) → ◌≡◌ {A = Result Vector3 Refusal} (answer (row b Direction (Ok tt)) Err (Ok direction)) (Ok v) → row b Direction (Ok tt) ≡ Ok tt
+      tells true e = refl
+      tells false e = absurd (let z : ◌≡◌ {A = ℕ} 0 1 = cc in omega arith)
 
   -- the rows of the grid and of the direction first, then those of the cell
-  pub cell_rows_then : cell_rows grid positions direction ≡ then (grid_rows grid positions direction Passed) (candidate_rows grid positions (cell_of_query grid direction))
+  pub cell_rows_then : cell_rows grid positions direction ≡ then (grid_rows grid positions direction (Ok tt)) (candidate_rows grid positions (cell_of_query grid direction))
   unfolding cell_rows
-  cell_rows_then = grid_rows_then Passed (candidate_rows grid positions (cell_of_query grid direction))
+  cell_rows_then = grid_rows_then (Ok tt) (candidate_rows grid positions (cell_of_query grid direction))
 
-  pub cell_rows_refused : (reason : Refusal) → grid_rows grid positions direction Passed ≡ Refused reason → cell_rows grid positions direction ≡ Refused reason
+  pub cell_rows_refused : (reason : Refusal) → grid_rows grid positions direction (Ok tt) ≡ Err reason → cell_rows grid positions direction ≡ Err reason
   cell_rows_refused reason h = cell_rows_then ∙ ap (λ (v : Verdict). then v (candidate_rows grid positions (cell_of_query grid direction))) h
 
-  pub cell_rows_passed : grid_rows grid positions direction Passed ≡ Passed → cell_rows grid positions direction ≡ candidate_rows grid positions (cell_of_query grid direction)
+  pub cell_rows_passed : grid_rows grid positions direction (Ok tt) ≡ Ok tt → cell_rows grid positions direction ≡ candidate_rows grid positions (cell_of_query grid direction)
   cell_rows_passed h = cell_rows_then ∙ ap (λ (v : Verdict). then v (candidate_rows grid positions (cell_of_query grid direction))) h

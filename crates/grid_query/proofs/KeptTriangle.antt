@@ -3,7 +3,8 @@
 use Rattle.std.proofs.Common.{◌≡◌, ℕ, suc, Bool, true, false, cond, List, [], ◌∷◌, refl, ◌∙◌, inl, true≢false}
 use mathlib.Core.Bool.{false≢true}
 use lib.Ieee.{Float, lt}
-use Rattle.refusal.specs.Refusal.{refusal}
+use Rattle.std.specs.Prelude.{Option, None, Err, ok_or}
+use Rattle.refusal.specs.declared.Refusal.TheVariants.{NoTriangle}
 use Rattle.refusal.proofs.Rows.{answers_relate}
 use Rattle.binary64.specs.Minimum.{SameButZeroSign}
 use Rattle.binary64.proofs.Zeros.{same_above, same_below}
@@ -13,15 +14,14 @@ use Rattle.vector.specs.Vector.{normalized}
 use Rattle.vector.specs.declared.Weights.{Weights}
 use Rattle.barycentric.specs.LeastWeight.{least_weight}
 use Rattle.grid_query.specs.declared.Located.{Located}
-use Rattle.grid_query.specs.declared.Located.TheVariants.{Refused}
 use Rattle.grid_query.specs.Cell.{cell_of_query, candidates, triples_at, cell_rows}
 use Rattle.grid_query.specs.Nearest.{nearest_of}
 use Rattle.grid_query.specs.Locate.{weighed_by, weighed, least_kept, kept_by, kept_of, triangle_rows, located_at, grid_locate}
 use Rattle.grid_query.specs.KeptTriangle.{SameTriangle, OpenAtZero, KeptWhicheverZero, locate_by, LocatedWhicheverZero, OpenMinimum, least_by, earlier_of_equals}
 
 -- ---- along the list, the leasts too differ in the sign of a zero at most
-abbrev Alike : Located → Located → Type 0
-Alike kept kept' = SameTriangle kept kept' × SameButZeroSign (least_kept kept) (least_kept kept')
+abbrev Alike : Option Located → Option Located → Type 0
+Alike kept kept' = SameTriangle (ok_or kept NoTriangle) (ok_or kept' NoTriangle) × SameButZeroSign (least_kept kept) (least_kept kept')
 
 module _ (positions : List Float) (direction : Vector3) where
   weighed_alike : (rule : Weights → Float) → ((t : Weights) → SameButZeroSign (least_weight t) (rule t)) → (t : List ℕ) → Alike (weighed positions direction t) (weighed_by rule positions direction t)
@@ -31,7 +31,7 @@ module _ (positions : List Float) (direction : Vector3) where
   weighed_alike rule same (a ∷ b ∷ []) = (refl, inl refl)
   weighed_alike rule same (a ∷ b ∷ c ∷ rest) = ((refl, refl), same _)
 
-  kept_alike : (rule : ℕ → Weights → Float) → OpenAtZero rule → (kept kept' : Located) (triples : List (List ℕ)) → Alike kept kept'
+  kept_alike : (rule : ℕ → Weights → Float) → OpenAtZero rule → (kept kept' : Option Located) (triples : List (List ℕ)) → Alike kept kept'
       → Alike (kept_of positions direction kept triples) (kept_by rule positions direction kept' triples)
   unfolding kept_by
   kept_alike rule unsettled kept kept' [] h = h
@@ -39,19 +39,19 @@ module _ (positions : List Float) (direction : Vector3) where
       kept_alike (λ i. rule (suc i)) (λ i. unsettled (suc i)) _ _ ts
       (better (weighed positions direction t) (weighed_by (rule 0) positions direction t) (weighed_alike (rule 0) (unsettled 0) t))
     where
-      choose : (b c : Bool) (next next' : Located) → b ≡ c → Alike next next' → Alike (cond b next kept) (cond c next' kept')
+      choose : (b c : Bool) (next next' : Option Located) → b ≡ c → Alike next next' → Alike (cond b next kept) (cond c next' kept')
       choose true true next next' e n = n
       choose false false next next' e n = h
       choose true false next next' e n = absurd (true≢false e)
       choose false true next next' e n = absurd (false≢true e)
 
-      better : (next next' : Located) → Alike next next' → Alike (cond (lt (least_kept kept) (least_kept next)) next kept) (cond (lt (least_kept kept') (least_kept next')) next' kept')
+      better : (next next' : Option Located) → Alike next next' → Alike (cond (lt (least_kept kept) (least_kept next)) next kept) (cond (lt (least_kept kept') (least_kept next')) next' kept')
       better next next' n =
           choose (lt (least_kept kept) (least_kept next)) (lt (least_kept kept') (least_kept next')) next next'
           (same_below (least_kept kept) (least_kept kept') (least_kept next) h.1 ∙ same_above (least_kept next) (least_kept next') (least_kept kept') n.1) n
 
 pub kept_whichever_zero : KeptWhicheverZero
-kept_whichever_zero rule unsettled positions direction triples = (kept_alike positions direction rule unsettled (Refused (refusal 12)) (Refused (refusal 12)) triples (refl, inl refl)).0
+kept_whichever_zero rule unsettled positions direction triples = (kept_alike positions direction rule unsettled None None triples (refl, inl refl)).0
 
 -- ---- a whole location: its rows come before any least is taken
 pub located_whichever_zero : LocatedWhicheverZero
@@ -59,8 +59,8 @@ unfolding grid_locate located_at locate_by
 located_whichever_zero rule unsettled grid positions direction =
     let d = normalized direction in
     let v = nearest_of positions d (candidates grid (cell_of_query grid direction)) in
-    answers_relate SameTriangle (cell_rows grid positions direction) Refused _ Refused _ (λ reason. refl)
-    (answers_relate SameTriangle (triangle_rows grid positions v) Refused _ Refused _ (λ reason. refl) (kept_whichever_zero rule unsettled positions d (triples_at grid v)))
+    answers_relate SameTriangle (cell_rows grid positions direction) Err _ Err _ (λ reason. refl)
+    (answers_relate SameTriangle (triangle_rows grid positions v) Err _ Err _ (λ reason. refl) (kept_whichever_zero rule unsettled positions d (triples_at grid v)))
 
 -- ---- rules that are open at zero
 pub any_minimum_open : (first second : ℕ → Float → Float → Float) → OpenMinimum first → OpenMinimum second → OpenAtZero (least_by first second)

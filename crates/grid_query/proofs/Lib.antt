@@ -13,3 +13,5 @@ pub mod NearestCandidate
 pub mod Cell
 pub mod KeptTriangle
 pub mod CellOrder
+pub mod AtParts
+pub mod Query

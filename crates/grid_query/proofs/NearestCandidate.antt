@@ -8,13 +8,12 @@ use Rattle.sequences.proofs.Least.{least_member, least_ascending, least_related_
 use Rattle.binary64.specs.TotalOrder.{rank_of}
 use Rattle.binary64.proofs.TotalOrder.{rank_of_injective}
 use Rattle.refusal.specs.declared.Refusal.{Refusal}
-use Rattle.refusal.specs.declared.Verdict.TheVariants as Verdicts
+use Rattle.std.specs.Prelude.{Ok, Err}
 use Rattle.vector.specs.declared.Vector3.{Vector3}
 use Rattle.vector.specs.Vector.{normalized}
 use Rattle.grid.specs.Grid.{Grid}
-use Rattle.grid_query.specs.declared.Nearest.TheVariants.{Refused, Found}
 use Rattle.grid_query.specs.Cell.{cell_of_query, candidates, cell_rows}
-use Rattle.grid_query.specs.Nearest.{squared_distance, nearest_of, nearest_in, grid_nearest}
+use Rattle.grid_query.specs.Nearest.{squared_distance, nearest_of, found, nearest_in, grid_nearest}
 use Rattle.grid_query.proofs.Distance.{squared_distance_fits}
 
 -- ranks of squared distances tell the distances
@@ -38,18 +37,18 @@ module _ (positions : List Float) (direction : Vector3) where
 
   -- "the answer has id, distance and the count of candidates compared"
   pub nearest_answer_lem : (ids : List ℕ)
-      → nearest_in positions direction ids ≡ Found (nearest_of positions direction ids) (squared_distance positions direction (nearest_of positions direction ids)) (length ids)
+      → nearest_in positions direction ids ≡ found (nearest_of positions direction ids) (squared_distance positions direction (nearest_of positions direction ids)) (length ids)
   unfolding nearest_in
   nearest_answer_lem ids = refl
 
 -- ---- the whole outcome
 module _ (grid : Grid) (positions : List Float) (direction : Vector3) where
-  pub nearest_refused : (reason : Refusal) → cell_rows grid positions direction ≡ Verdicts.Refused reason → grid_nearest grid positions direction ≡ Refused reason
+  pub nearest_refused : (reason : Refusal) → cell_rows grid positions direction ≡ Err reason → grid_nearest grid positions direction ≡ Err reason
   unfolding grid_nearest
   nearest_refused reason h = rw h refl
 
-  pub nearest_passed : cell_rows grid positions direction ≡ Verdicts.Passed
-      → grid_nearest grid positions direction ≡ nearest_in positions (normalized direction) (candidates grid (cell_of_query grid direction))
+  pub nearest_passed : cell_rows grid positions direction ≡ Ok tt
+      → grid_nearest grid positions direction ≡ Ok (nearest_in positions (normalized direction) (candidates grid (cell_of_query grid direction)))
   unfolding grid_nearest
   nearest_passed h = rw h refl
 

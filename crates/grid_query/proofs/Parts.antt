@@ -1,35 +1,47 @@
--- Parts of a lent grid as code reads them, from the start at i to the start at i + 1. Assumes nothing.
-use Rattle.std.proofs.Common.{◌≡◌, ℕ, ◌+◌, ◌-◌, ◌*◌, ◌≤◌, leb, List, length, get_or, take, drop, sym, ap, ◌∙◌, add-one}
-use lib.Seq.{length-slice}
-use Rattle.sequences.specs.Starts.{part, block_part}
+-- Parts of a lent grid as code reads them, by blocks of a width, and what a query answers at the part of a cell and of a vertex. Assumes nothing.
+use Rattle.std.proofs.Common.{◌≡◌, ℕ, suc, ◌+◌, ◌-◌, ◌*◌, ◌<◌, ◌≤◌, true, List, length, get_or, take, drop, sym, refl, ap, ◌∙◌, mul-one, add-one, le-leb}
+use borrow.Author.Tests.{lt-leb}
 use Rattle.sequences.proofs.Tabulate.{slice_as_take}
+use Rattle.std.specs.Prelude.{Ok, Err}
+use Rattle.sequences.specs.Starts.{part, block_part}
+use Rattle.refusal.specs.declared.Refusal.{Refusal}
+use Rattle.refusal.specs.declared.Refusal.TheVariants.{Starts, StartsFall}
+use Rattle.refusal.specs.Refusal.{Verdict, row, then}
+use Rattle.refusal.proofs.Rows.{row_then}
 use Rattle.mesh.specs.Rows.{not_falling}
-use Rattle.grid.specs.Grid.{Grid}
-use Rattle.grid_query.specs.Cell.{part_within, candidates}
-use Rattle.grid_query.specs.Locate.{triples_within}
+use Rattle.grid_query.specs.Cell.{part_within, part_rows}
 
-module _ {A : Type 0} where
-  pub length_taken : (f t : ℕ) (l : List A) → t ≤ length l → length (take (t - f) (drop f l)) ≡ t - f
-  length_taken f t l h = ap length (sym (slice_as_take f t l)) ∙ length-slice f t l h
+module _ (w : ℕ) (starts : List ℕ) (places i : ℕ) (next : Verdict) where
+  part_rows_then : part_rows w starts places i next ≡ then (part_rows w starts places i (Ok tt)) next
+  part_rows_then =
+      ap (row (not_falling starts i) (StartsFall (suc i))) (row_then (part_within w starts places i) Starts (Ok tt) next)
+      ∙ row_then (not_falling starts i) (StartsFall (suc i)) (row (part_within w starts places i) Starts (Ok tt)) next
 
-module _ (starts : List ℕ) (i : ℕ) where
-  pub falling_tested : leb (get_or starts i 0) (get_or starts (i + 1) 0) ≡ not_falling starts i
-  falling_tested = rw (add-one i)
+  -- where the part's own rows pass, those behind them decide
+  pub part_passed : part_rows w starts places i (Ok tt) ≡ Ok tt → part_rows w starts places i next ≡ next
+  part_passed h = part_rows_then ∙ ap (λ (v : Verdict). then v next) h
 
-  pub part_tested : (places : ℕ) → leb (get_or starts (i + 1) 0) places ≡ part_within starts places i
+  pub part_refused : (reason : Refusal) → part_rows w starts places i (Ok tt) ≡ Err reason → part_rows w starts places i next ≡ Err reason
+  part_refused reason h = part_rows_then ∙ ap (λ (v : Verdict). then v next) h
+
+-- blocks of one
+pub one_by_one : (starts values : List ℕ) (i : ℕ) → block_part 1 starts values i ≡ part starts values i
+unfolding block_part part
+one_by_one starts values i = rw (mul-one (get_or starts i 0), mul-one (get_or starts (suc i) 0)) refl
+
+-- ---- what the code of a part tests and takes
+module _ (w : ℕ) (starts values : List ℕ) (i : ℕ) (rises : get_or starts i 0 ≤ get_or starts (i + 1) 0) where
+  ascends : not_falling starts i ≡ true
+  ascends = le-leb _ _ (rw (← add-one i) rises)
+
+  pub part_runs_past : length values < get_or starts (i + 1) 0 * w → part_rows w starts (length values) i (Ok tt) ≡ Err Starts
   unfolding part_within
-  part_tested places = rw (add-one i)
+  part_runs_past past = rw (ascends, lt-leb (get_or starts (suc i) 0 * w) (length values) (rw (← add-one i) past)) refl
 
-module _ (grid : Grid) (i : ℕ) where
-  pub candidates_read : let first = get_or grid.cell_starts i 0 in take (get_or grid.cell_starts (i + 1) 0 - first) (drop first grid.cell_ids) ≡ candidates grid i
-  unfolding candidates part
-  candidates_read = sym (slice_as_take (get_or grid.cell_starts i 0) (get_or grid.cell_starts (i + 1) 0) grid.cell_ids) ∙ rw (add-one i)
+  pub part_passes : get_or starts (i + 1) 0 * w ≤ length values → part_rows w starts (length values) i (Ok tt) ≡ Ok tt
+  unfolding part_within
+  part_passes within = rw (ascends, le-leb (get_or starts (suc i) 0 * w) (length values) (rw (← add-one i) within)) refl
 
-  pub triples_tested : leb (get_or grid.triangle_starts (i + 1) 0 * 3) (length grid.triples) ≡ triples_within grid i
-  unfolding triples_within
-  triples_tested = rw (add-one i)
-
-  pub triples_read : let first = get_or grid.triangle_starts i 0 * 3 in
-      take (get_or grid.triangle_starts (i + 1) 0 * 3 - first) (drop first grid.triples) ≡ block_part 3 grid.triangle_starts grid.triples i
-  unfolding block_part
-  triples_read = sym (slice_as_take (get_or grid.triangle_starts i 0 * 3) (get_or grid.triangle_starts (i + 1) 0 * 3) grid.triples) ∙ rw (add-one i)
+pub part_taken : (w : ℕ) (starts values : List ℕ) (i : ℕ) → take (get_or starts (i + 1) 0 * w - get_or starts i 0 * w) (drop (get_or starts i 0 * w) values) ≡ block_part w starts values i
+unfolding block_part
+part_taken w starts values i = sym (slice_as_take (get_or starts i 0 * w) (get_or starts (i + 1) 0 * w) values) ∙ rw (add-one i) refl

@@ -1,12 +1,12 @@
 -- A scan of a cell's candidates: what is left of them gives the nearest of all. Assumes nothing.
-use Rattle.std.proofs.Common.{◌≡◌, ℕ, ◌+◌, ◌<◌, ◌≤◌, Bool, true, false, cond, ltb, List, [], ◌∷◌, length, get_or, drop, sym, refl, ◌∙◌, add-one, arith, drop_of_length-le, le-ltb, lt-ltb}
+use Rattle.std.proofs.Common.{◌≡◌, ℕ, ◌+◌, ◌-◌, ◌<◌, ◌≤◌, Bool, true, false, cond, ltb, List, [], ◌∷◌, length, get_or, take, drop, sym, refl, ap, subst, ◌∙◌, add-one, arith, drop_of_length-le, le-ltb, lt-ltb}
 use lib.Ieee.{Float}
+use Rattle.std.proofs.Math.Seq.{take-length}
 use Rattle.sequences.specs.Least.{least}
 use Rattle.sequences.proofs.Least.{least_scan}
 use Rattle.binary64.specs.TotalOrder.{rank_of}
 use Rattle.vector.specs.declared.Vector3.{Vector3}
-use Rattle.grid_query.specs.declared.Nearest.TheVariants.{Found}
-use Rattle.grid_query.specs.Nearest.{squared_distance, nearest_of, nearest_in}
+use Rattle.grid_query.specs.Nearest.{squared_distance, nearest_of, found, nearest_in}
 
 -- the rank of a vertex's squared distance
 abbrev pub distance_rank : List Float → Vector3 → ℕ → ℕ
@@ -17,6 +17,22 @@ pub record Scanned (positions : List Float) (direction : Vector3) (ids : List �
   pub at_distance : distance ≡ squared_distance positions direction id
   pub ranked : rank ≡ rank_of distance
   pub rest : least (distance_rank positions direction) id (drop i ids) ≡ nearest_of positions direction ids
+
+-- the ids behind the first, as code cuts them off
+all_but_first : (x : ℕ) (xs : List ℕ) → take (length (x ∷ xs) - 1) (drop 1 (x ∷ xs)) ≡ xs
+all_but_first x xs = (let one_less : length (x ∷ xs) - 1 ≡ length xs = omega arith in ap (λ n. take n xs) one_less) ∙ take-length xs
+
+pub behind_first : (ids : List ℕ) (i : ℕ) → i < length (take (length ids - 1) (drop 1 ids)) → (get_or (take (length ids - 1) (drop 1 ids)) i 0 ≡ get_or ids (i + 1) 0) × (i + 1 < length ids)
+behind_first [] i h = absurd (let z : ⊥ = omega arith in z)
+behind_first (x ∷ xs) i h =
+    let short : i < length xs = subst (λ l. i < length l) (all_but_first x xs) h in
+    (ap (λ l. get_or l i 0) (all_but_first x xs) ∙ rw (add-one i) refl, omega arith)
+
+pub all_behind : (ids : List ℕ) (i : ℕ) → length (take (length ids - 1) (drop 1 ids)) ≤ i → length ids ≤ i + 1
+all_behind [] i h = omega arith
+all_behind (x ∷ xs) i h =
+    let k : length xs ≤ i = subst (λ l. length l ≤ i) (all_but_first x xs) h in
+    omega arith
 
 module _ (positions : List Float) (direction : Vector3) (ids : List ℕ) where
   -- the first candidate alone
@@ -42,9 +58,9 @@ module _ (positions : List Float) (direction : Vector3) (ids : List ℕ) where
     pub scan_farther : rank ≤ next-rank → Scanned positions direction ids (i + 1) id distance rank
     scan_farther l = record { at_distance = scanned.at_distance; ranked = scanned.ranked; rest = step false (le-ltb next-rank rank l) }
 
-  pub scan_end : (i id : ℕ) (distance : Float) (rank compared : ℕ) → Scanned positions direction ids i id distance rank → i ≡ length ids → compared ≡ i
-      → Found id distance compared ≡ nearest_in positions direction ids
+  pub scan_end : (i id : ℕ) (distance : Float) (rank : ℕ) → Scanned positions direction ids i id distance rank → length ids ≤ i
+      → found id distance (length ids) ≡ nearest_in positions direction ids
   unfolding nearest_in least
-  scan_end i id distance rank compared s e k =
-      let nearest : id ≡ nearest_of positions direction ids = rw (drop_of_length-le ids {i = i} (omega arith)) at s.rest in
-      rw (← nearest, s.at_distance, k, e) refl
+  scan_end i id distance rank s all =
+      let nearest : id ≡ nearest_of positions direction ids = rw (drop_of_length-le ids {i = i} all) at s.rest in
+      rw (← nearest, s.at_distance) refl

@@ -1,10 +1,9 @@
 -- The cell of a direction, and what a query asks of a grid before it reads the cell (document 01, "Cube grid" and below the table of refusals). Definitions only.
-use Rattle.std.specs.Prelude.{ℕ, suc, ◌+◌, ◌-◌, ◌*◌, Bool, cond, List, [], ◌∷◌, length, nat_le, nat_lt, slice_index, Float}
+use Rattle.std.specs.Prelude.{ℕ, suc, ◌+◌, ◌-◌, ◌*◌, Bool, cond, List, [], ◌∷◌, length, nat_le, nat_lt, slice_index, Float, Ok}
 use Rattle.std.specs.Float.Ieee.{lt, to_unsigned}
 use Rattle.sequences.specs.Starts.{part, block_part}
-use Rattle.refusal.specs.declared.Verdict.{Verdict}
-use Rattle.refusal.specs.declared.Verdict.TheVariants.{Passed}
-use Rattle.refusal.specs.Refusal.{refusal, refusal_at, row}
+use Rattle.refusal.specs.declared.Refusal.TheVariants.{Starts, StartsFall, EmptyCell, Id}
+use Rattle.refusal.specs.Refusal.{Verdict, row}
 use Rattle.vector.specs.declared.Vector3.{Vector3}
 use Rattle.vector.specs.Vector.{normalized}
 use Rattle.vector.specs.Direction.{direction_row}
@@ -40,9 +39,15 @@ cell_of g direction =
 abbrev pub cell_of_query : Grid → Vector3 → ℕ
 cell_of_query grid direction = cell_of grid.side (normalized direction)
 
--- "it tries the part read for falling (18), then for running past the ids, still 3" (W-209). Of falling the mesh's `not_falling` is the test, here at one part alone. The part i ends within a list of so many places:
-unfoldable pub part_within : List ℕ → ℕ → ℕ → Bool
-part_within starts places i = nat_le (slice_index starts (suc i)) places
+-- The part i, whose starts count blocks of the width w, ends within a list of so many places.
+unfoldable pub part_within : ℕ → List ℕ → ℕ → ℕ → Bool
+part_within w starts places i = nat_le (slice_index starts (suc i) * w) places
+
+-- "it tries the part read for falling (18), then for running past the ids, still 3" (W-209). Of falling the mesh's `not_falling` is the test, here at one part alone: where it falls, the start below the one before it is that behind the part's own.
+abbrev pub part_rows : ℕ → List ℕ → ℕ → ℕ → Verdict → Verdict
+part_rows w starts places i next =
+    row (not_falling starts i) (StartsFall (suc i))
+    (row (part_within w starts places i) Starts next)
 
 -- "Candidates are the ids in the direction's cell".
 unfoldable pub candidates : Grid → ℕ → List ℕ
@@ -63,13 +68,12 @@ triples_at grid v = in_triples (block_part 3 grid.triangle_starts grid.triples v
 abbrev pub grid_rows : Grid → List Float → Vector3 → Verdict → Verdict
 grid_rows grid positions direction next = stored_rows grid positions (direction_row direction next)
 
--- "then in its cell" rows 18, 3, 11, 4. Where its part falls, the start below the one before it is that behind the cell's own.
+-- "then in its cell" rows 18, 3, 11, 4.
 abbrev pub candidate_rows : Grid → List Float → ℕ → Verdict
 candidate_rows grid positions cell =
-    row (not_falling grid.cell_starts cell) (refusal_at 18 (suc cell))
-    (row (part_within grid.cell_starts (length grid.cell_ids) cell) (refusal 3)
-    (row (nat_lt 0 (length (candidates grid cell))) (refusal 11)
-    (row (ids_below (vertex_count positions) (candidates grid cell)) (refusal 4) Passed)))
+    part_rows 1 grid.cell_starts (length grid.cell_ids) cell
+    (row (nat_lt 0 (length (candidates grid cell))) EmptyCell
+    (row (ids_below (vertex_count positions) (candidates grid cell)) Id (Ok tt)))
 
 -- Both in their order, at the cell of the direction.
 unfoldable pub cell_rows : Grid → List Float → Vector3 → Verdict

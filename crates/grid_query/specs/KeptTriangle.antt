@@ -1,7 +1,9 @@
 -- "Which triangle is kept does not depend on this, and that is to be shown" (W-201): not on the sign of a least that is a zero. Definitions only.
-use Rattle.std.specs.Prelude.{◌≡◌, ℕ, cond, List, Float}
+use Rattle.std.specs.Prelude.{◌≡◌, ℕ, cond, List, Float, None, Result, Ok, Err, ok_or}
 use Rattle.std.specs.Float.Ieee.{lt, is_nan}
-use Rattle.refusal.specs.Refusal.{refusal, answer}
+use Rattle.refusal.specs.declared.Refusal.{Refusal}
+use Rattle.refusal.specs.declared.Refusal.TheVariants.{NoTriangle}
+use Rattle.refusal.specs.Refusal.{answer}
 use Rattle.binary64.specs.Minimum.{minimum_number, SameButZeroSign}
 use Rattle.vector.specs.declared.Vector3.{Vector3}
 use Rattle.vector.specs.Vector.{normalized}
@@ -9,17 +11,16 @@ use Rattle.vector.specs.declared.Weights.{Weights}
 use Rattle.barycentric.specs.LeastWeight.{least_weight}
 use Rattle.grid.specs.Grid.{Grid}
 use Rattle.grid_query.specs.declared.Located.{Located}
-use Rattle.grid_query.specs.declared.Located.TheVariants.{Refused, At}
 use Rattle.grid_query.specs.Cell.{cell_of_query, candidates, triples_at, cell_rows}
 use Rattle.grid_query.specs.Nearest.{nearest_of}
 use Rattle.grid_query.specs.Locate.{kept_by, kept_of, triangle_rows, grid_locate}
 
 -- The same refusal, or the same triangle with the same weights.
-abbrev pub SameTriangle : Located → Located → Type 0
-SameTriangle (Refused reason) (Refused reason') = reason ≡ reason'
-SameTriangle (Refused reason) (At triple' weights' least') = ⊥
-SameTriangle (At triple weights least) (Refused reason') = ⊥
-SameTriangle (At triple weights least) (At triple' weights' least') = (triple ≡ triple') × (weights ≡ weights')
+abbrev pub SameTriangle : Result Located Refusal → Result Located Refusal → Type 0
+SameTriangle (Err reason) (Err reason') = reason ≡ reason'
+SameTriangle (Err reason) (Ok located') = ⊥
+SameTriangle (Ok located) (Err reason') = ⊥
+SameTriangle (Ok located) (Ok located') = (located.triple ≡ located'.triple) × (located.weights ≡ located'.weights)
 
 -- A rule for the least, at each place of a list, that differs from the least weight in the sign of a zero at most.
 abbrev pub OpenAtZero : (ℕ → Weights → Float) → Type 0
@@ -28,14 +29,14 @@ OpenAtZero rule = (i : ℕ) (t : Weights) → SameButZeroSign (least_weight t) (
 -- On any list, by the least weight and by any such rule.
 abbrev pub KeptWhicheverZero : Type 0
 KeptWhicheverZero = (rule : ℕ → Weights → Float) → OpenAtZero rule → (positions : List Float) (direction : Vector3) (triples : List (List ℕ))
-    → SameTriangle (kept_of positions direction (Refused (refusal 12)) triples) (kept_by rule positions direction (Refused (refusal 12)) triples)
+    → SameTriangle (ok_or (kept_of positions direction None triples) NoTriangle) (ok_or (kept_by rule positions direction None triples) NoTriangle)
 
 -- A location with its leasts by a rule; `grid_locate` is that by the least weight.
-unfoldable pub locate_by : (ℕ → Weights → Float) → Grid → List Float → Vector3 → Located
+unfoldable pub locate_by : (ℕ → Weights → Float) → Grid → List Float → Vector3 → Result Located Refusal
 locate_by rule grid positions direction =
     let nearest = nearest_of positions (normalized direction) (candidates grid (cell_of_query grid direction)) in
-    answer (cell_rows grid positions direction) Refused
-    (answer (triangle_rows grid positions nearest) Refused (kept_by rule positions (normalized direction) (Refused (refusal 12)) (triples_at grid nearest)))
+    answer (cell_rows grid positions direction) Err
+    (answer (triangle_rows grid positions nearest) Err (ok_or (kept_by rule positions (normalized direction) None (triples_at grid nearest)) NoTriangle))
 
 -- The same of a whole location: any grid, positions and direction, accepted or refused.
 abbrev pub LocatedWhicheverZero : Type 0

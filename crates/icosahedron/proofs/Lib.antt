@@ -1,4 +1,3 @@
-pub mod Arms
 pub mod Faces
 pub mod Slots
-pub mod Frequency
+pub mod Range

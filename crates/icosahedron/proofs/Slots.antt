@@ -1,7 +1,7 @@
 -- Laws of the slots of a master face: each lattice point's slot lies below the number of slots. Assumes nothing.
 use mathlib.Core.Path.{◌≡◌, refl, ap, ◌∙◌, subst}
 use Prim.Native.Nat.{ℕ, zero, suc, ◌+◌, ◌-◌, ◌*◌, ◌≤◌, ◌<◌}
-use native.Mathlib.Nat.{add-mul, mul-add, mul_comm, mul-one, mul-sub, suc-mul, mul-le-mul, mul-le-mul_left}
+use native.Mathlib.Nat.{add-mul, mul-add, mul_comm, mul-one, mul-sub, mul-le-mul}
 use native.Mathlib.Numerals.{towards_suc}
 use native.Mathlib.Omega.{arith}
 use Rattle.icosahedron.specs.Slots.{slot_of, slots_per_face}
@@ -25,14 +25,6 @@ slot_below n a b h =
     let m = n - a in
     let e : a + m ≡ n = omega arith in
     subst (λ (k : ℕ). slot_of k a b < slots_per_face k) e (slot_below_at a m b (omega arith))
-
--- the products that a slot is made of are small, and no subtraction goes below 0
-pub slot_products : (n a b : ℕ) → n ≤ 80 → a + b ≤ n → (a * (n + 1) ≤ 6480) × (a * a ≤ a * (n + 1)) × (a ≤ a * a)
-slot_products n a b n≤80 h = (mul-le-mul {n₂ = 80} {m₂ = 81} (omega arith) (omega arith), mul-le-mul_left a (omega arith), square a)
-  where
-    square : (a : ℕ) → a ≤ a * a
-    square zero = omega arith
-    square (suc a) = rw (suc-mul a (suc a)) (omega arith)
 
 pub slots_per_face_le : (n : ℕ) → n ≤ 80 → slots_per_face n ≤ 3321
 unfolding slots_per_face

@@ -1,2 +1,4 @@
 pub mod Icosahedron
 pub mod Slots
+pub mod Frequency
+pub mod Corners

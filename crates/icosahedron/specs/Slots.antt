@@ -1,7 +1,7 @@
 -- The slots of a master face's lattice points, and the numbers that belong to a frequency. Definitions only.
 use Rattle.std.specs.Prelude.{ℕ, ◌+◌, ◌-◌, ◌*◌, ◌/◌, ◌≤◌, Bool, ◌&&◌, leb}
-use Rattle.refusal.specs.declared.Verdict.{Verdict}
-use Rattle.refusal.specs.Refusal.{refusal, row}
+use Rattle.refusal.specs.declared.Refusal.TheVariants as refusal
+use Rattle.refusal.specs.Refusal.{Verdict, row}
 
 -- Row 1 of document 01's table refuses a frequency "below 1, above 80".
 abbrev pub greatest_frequency : ℕ
@@ -16,7 +16,7 @@ IsFrequency n = (1 ≤ n) × (n ≤ greatest_frequency)
 
 -- Row 1, and then the next rows.
 abbrev pub frequency_row : ℕ → Verdict → Verdict
-frequency_row n next = row (frequency_fits n) (refusal 1) next
+frequency_row n next = row (frequency_fits n) refusal.Frequency next
 
 -- Document 01, "Lattice of frequency n": "Slot of (a, b) in its face: a(n + 1) − a(a − 1)/2 + b". At a = 0 the product a(a − 1) is 0.
 unfoldable pub slot_of : ℕ → ℕ → ℕ → ℕ

@@ -9,8 +9,8 @@ use lib.Ieee.{Float}
 use Rattle.sequences.specs.Permutation.{at, IsPermutation, inverse, identity}
 use Rattle.sequences.proofs.Permutation.{permutation_bijection, identity_at, identity_permutation, compose_at, compose_permutation}
 use Rattle.refusal.specs.declared.Refusal.{Refusal}
-use Rattle.refusal.specs.declared.Verdict.{Verdict}
-use Rattle.refusal.specs.declared.Verdict.TheVariants.{Passed, Refused}
+use Rattle.std.specs.Prelude.{Ok, Err}
+use Rattle.refusal.specs.Refusal.{Verdict}
 use Rattle.mesh.specs.Mesh.{Mesh, count}
 use Rattle.mesh.proofs.Facts.{AdjacencyFacts}
 use Rattle.mesh.proofs.Renumbered.{Renumbered, renumbered_none, renumbered_then}
@@ -52,18 +52,18 @@ module _ (m : Mesh) (values : List Float) (facts : AdjacencyFacts m) where
         ∙ ap₂ (λ (n longest : ℕ). call_rows n longest call) same_count same_longest
 
     -- ---- one call
-    accepted_data : call_rows (count m) (longest_length m values) call ≡ Passed → (after_call state call).values ≡ renumbered_data (count m) call.permutation call.entries_per_vertex state.values
+    accepted_data : call_rows (count m) (longest_length m values) call ≡ Ok tt → (after_call state call).values ≡ renumbered_data (count m) call.permutation call.entries_per_vertex state.values
     unfolding after_call
     accepted_data e =
         accepted_values state.mesh state.mark state.values call (same_rows ∙ e) ∙ ap (λ (n : ℕ). renumbered_data n call.permutation call.entries_per_vertex state.values) same_count
 
-    refused_data : (reason : Refusal) → call_rows (count m) (longest_length m values) call ≡ Refused reason → (after_call state call).values ≡ state.values
+    refused_data : (reason : Refusal) → call_rows (count m) (longest_length m values) call ≡ Err reason → (after_call state call).values ≡ state.values
     unfolding after_call
     refused_data reason e = refused_values state.mesh state.mark state.values call reason (same_rows ∙ e)
 
     step : (v : Verdict) → call_rows (count m) (longest_length m values) call ≡ v → RenumberedBy (accumulate (count m) (longest_length m values) p call) (after_call state call)
     unfolding accumulate after_call
-    step (Refused reason) e =
+    step (Err reason) e =
         rw (e, refused_mesh state.mesh state.mark state.values call reason (same_rows ∙ e)) (record {
           permutation = r.permutation;
           mesh = r.mesh;
@@ -71,7 +71,7 @@ module _ (m : Mesh) (values : List Float) (facts : AdjacencyFacts m) where
           entries_length = r.entries_length;
           data_length = ap length (refused_data reason e) ∙ r.data_length;
         })
-    step Passed e =
+    step (Ok tt) e =
         let k = accepted_permutation (count m) (longest_length m values) call e in
         let q = call.permutation in
         let k₁ : IsPermutation (count state.mesh) q = subst (λ (n : ℕ). IsPermutation n q) (sym same_count) k in
@@ -84,12 +84,12 @@ module _ (m : Mesh) (values : List Float) (facts : AdjacencyFacts m) where
           data_length = ap length (accepted_data e) ∙ renumbered_data_length k call.entries_per_vertex (accepted_entries (count m) (longest_length m values) call e) state.values ∙ r.data_length;
         })
 
-    data_step : (each : ℕ) → DataRenumberedBy each p state → (call_rows (count m) (longest_length m values) call ≡ Passed → call.entries_per_vertex ≡ each)
+    data_step : (each : ℕ) → DataRenumberedBy each p state → (call_rows (count m) (longest_length m values) call ≡ Ok tt → call.entries_per_vertex ≡ each)
         → (v : Verdict) → call_rows (count m) (longest_length m values) call ≡ v → DataRenumberedBy each (accumulate (count m) (longest_length m values) p call) (after_call state call)
     unfolding accumulate
-    data_step each d have (Refused reason) e =
+    data_step each d have (Err reason) e =
         rw e (record { moved = λ fit. refused_data reason e ∙ d.moved fit; kept = λ unfit. refused_data reason e ∙ d.kept unfit })
-    data_step each d have Passed e =
+    data_step each d have (Ok tt) e =
         let q = call.permutation in
         let k = accepted_permutation (count m) (longest_length m values) call e in
         let fits : entries_per_vertex_fit (count m) each ≡ true = rw (have e) at (accepted_entries (count m) (longest_length m values) call e) in

@@ -4,8 +4,8 @@ use native.Mathlib.Omega.{arith}
 use mathlib.Core.Path.{◌≡◌, refl, sym, ◌∙◌}
 use mathlib.Core.List.{List}
 use lib.ListN.{length}
-use Rattle.refusal.specs.declared.Verdict.{Verdict}
-use Rattle.refusal.specs.declared.Verdict.TheVariants.{Passed, Refused}
+use Rattle.std.specs.Prelude.{Ok, Err}
+use Rattle.refusal.specs.Refusal.{Verdict}
 use Rattle.vector.specs.declared.Vector3.{Vector3}
 use Rattle.vector.specs.Vector.{normalized}
 use Rattle.mesh.specs.Mesh.{Mesh}
@@ -24,11 +24,11 @@ use Rattle.invariance.specs.Claim.{SameNearest, SameGrids}
 
 module _ (m m₁ : Mesh) (settings : Settings) {p b : ℕ → ℕ} (facts : MeshFacts m) (facts₁ : MeshFacts m₁) (r : Renumbered m m₁ p b) where
   -- what the two queries find, once the rows have passed
-  found : (direction : Vector3) (cell : ℕ) → cell_of_query (grid_of m settings) direction ≡ cell → cell_rows (grid_of m settings) m.positions direction ≡ Passed
+  found : (direction : Vector3) (cell : ℕ) → cell_of_query (grid_of m settings) direction ≡ cell → cell_rows (grid_of m settings) m.positions direction ≡ Ok tt
       → SameNearest p
       (squared_distance m.positions (normalized direction)) (candidates (grid_of m settings) cell)
       (squared_distance m₁.positions (normalized direction)) (candidates (grid_of m₁ settings) cell)
-      (nearest_in m.positions (normalized direction) (candidates (grid_of m settings) cell)) (nearest_in m₁.positions (normalized direction) (candidates (grid_of m₁ settings) cell))
+      (Ok (nearest_in m.positions (normalized direction) (candidates (grid_of m settings) cell))) (Ok (nearest_in m₁.positions (normalized direction) (candidates (grid_of m₁ settings) cell)))
   found direction cell is-cell rows =
       let d : Vector3 = normalized direction in
       let ids : List ℕ = candidates (grid_of m settings) cell in
@@ -64,8 +64,8 @@ module _ (m m₁ : Mesh) (settings : Settings) {p b : ℕ → ℕ} (facts : Mesh
           (squared_distance m.positions (normalized direction)) (candidates (grid_of m settings) (cell_of_query (grid_of m settings) direction))
           (squared_distance m₁.positions (normalized direction)) (candidates (grid_of m₁ settings) (cell_of_query (grid_of m₁ settings) direction))
           (grid_nearest (grid_of m settings) m.positions direction) (grid_nearest (grid_of m₁ settings) m₁.positions direction)
-      go (Refused reason) e = rw (nearest_refused (grid_of m settings) m.positions direction reason e, nearest_refused (grid_of m₁ settings) m₁.positions direction reason (same ∙ e)) refl
-      go Passed e =
+      go (Err reason) e = rw (nearest_refused (grid_of m settings) m.positions direction reason e, nearest_refused (grid_of m₁ settings) m₁.positions direction reason (same ∙ e)) refl
+      go (Ok tt) e =
           rw (nearest_passed (grid_of m settings) m.positions direction e, nearest_passed (grid_of m₁ settings) m₁.positions direction (same ∙ e), same_cell m m₁ settings r direction)
           (found direction (cell_of_query (grid_of m settings) direction) refl e)
 

@@ -9,7 +9,7 @@ use lib.ListN.{length, get_or, drop}
 use lib.Ieee.{Float, nan}
 use Rattle.booleans.proofs.Booleans.{true_or_false}
 use Rattle.sequences.specs.Permutation.{at, IsPermutation}
-use Rattle.refusal.specs.declared.Verdict.TheVariants.{Passed}
+use Rattle.std.specs.Prelude.{Ok}
 use Rattle.vector.specs.declared.Vector3.{Vector3}
 use Rattle.mesh.specs.Mesh.{Mesh, count, position_of}
 use Rattle.mesh.specs.Rows.{mesh_rows}
@@ -19,10 +19,9 @@ use Rattle.mesh.proofs.Renumbered.{admissible_renumbered}
 use Rattle.renumber.specs.Renumber.{Call, entries_per_vertex_fit, longest_length}
 use Rattle.renumber.proofs.RenumberedData.{fit_single, fit_paired, renumbered_data_tail, renumbered_single, renumbered_pair}
 use Rattle.grid.specs.declared.settings.Settings.{Settings}
-use Rattle.grid.specs.declared.Build.TheVariants.{Built}
 use Rattle.grid.specs.Cells.{side_of}
 use Rattle.grid.specs.Held.{held_conversions}
-use Rattle.grid.specs.Grid.{GridSlices, build_rows, build_grid}
+use Rattle.grid.specs.Grid.{GridSlices, built, build_rows, build_grid}
 use Rattle.grid.proofs.Grid.{cut_build, built_held}
 use Rattle.grid.proofs.Held.{same_held}
 use Rattle.grid.proofs.Room.{same_build_rows}
@@ -77,7 +76,7 @@ renumbered_invariant m values facts mutual-lists p state r AllHave d =
     }
 
 -- ---- "Demand 3 is one claim about the whole list of calls, the empty list included, and not a claim for each call."
-pub renumbering_invariance : (m : Mesh) (mark : Bool) (values : List Float) (calls : List Call) → mesh_rows m ≡ Passed → Mutual m
+pub renumbering_invariance : (m : Mesh) (mark : Bool) (values : List Float) (calls : List Call) → mesh_rows m ≡ Ok tt → Mutual m
     → Invariant m values (after_calls (state_of m mark values) calls).mesh (after_calls (state_of m mark values) calls).values (at (accumulated_permutation (state_of m mark values) calls))
     (λ each. AcceptedHave each (count m) (longest_length m values) calls)
 renumbering_invariance m mark values calls rows mutual-lists =
@@ -86,7 +85,7 @@ renumbering_invariance m mark values calls rows mutual-lists =
     (λ each have. data_after_calls m values facts.adjacency mark each calls have)
 
 -- Where no list names a vertex twice, the builder needs as much room after the list as before.
-pub renumbering_same_room : (m : Mesh) (mark : Bool) (values : List Float) (calls : List Call) → mesh_rows m ≡ Passed → Mutual m → NoRepeat m → (settings : Settings) (lent : GridSlices)
+pub renumbering_same_room : (m : Mesh) (mark : Bool) (values : List Float) (calls : List Call) → mesh_rows m ≡ Ok tt → Mutual m → NoRepeat m → (settings : Settings) (lent : GridSlices)
     → build_rows (after_calls (state_of m mark values) calls).mesh settings lent ≡ build_rows m settings lent
 renumbering_same_room m mark values calls rows mutual-lists no-repeat settings lent =
     let facts = mesh_facts m rows in
@@ -94,8 +93,8 @@ renumbering_same_room m mark values calls rows mutual-lists no-repeat settings l
     same_build_rows m (after_calls (state_of m mark values) calls).mesh settings facts (admissible_renumbered facts r.mesh r.adjacency) mutual-lists no-repeat r.mesh lent
 
 -- A mesh after the list has as many conversions held at an end as before, whatever slices the builder was lent, as long as it accepted both.
-pub renumbering_same_held : (m : Mesh) (mark : Bool) (values : List Float) (calls : List Call) → mesh_rows m ≡ Passed → (settings : Settings) (lent lent₁ : GridSlices) (g g₁ held held₁ : ℕ)
-    → (build_grid m settings lent).answered ≡ Built g held → (build_grid (after_calls (state_of m mark values) calls).mesh settings lent₁).answered ≡ Built g₁ held₁ → held₁ ≡ held
+pub renumbering_same_held : (m : Mesh) (mark : Bool) (values : List Float) (calls : List Call) → mesh_rows m ≡ Ok tt → (settings : Settings) (lent lent₁ : GridSlices) (g g₁ held held₁ : ℕ)
+    → (build_grid m settings lent).answered ≡ Ok (built g held) → (build_grid (after_calls (state_of m mark values) calls).mesh settings lent₁).answered ≡ Ok (built g₁ held₁) → held₁ ≡ held
 renumbering_same_held m mark values calls rows settings lent lent₁ g g₁ held held₁ built built₁ =
     let new = (after_calls_lem m values (mesh_facts m rows).adjacency mark calls).mesh in
     let after = (after_calls (state_of m mark values) calls).mesh in

@@ -11,8 +11,8 @@ use Rattle.lattice.specs.Lattice.{lattice_mesh}
 use Rattle.lattice.proofs.Neighbours.{lattice_mutual, lattice_no_repeat}
 use Rattle.lattice.proofs.Rows.{lattice_mesh_rows}
 use Rattle.grid.specs.declared.settings.Settings.{Settings}
-use Rattle.grid.specs.declared.Build.TheVariants.{Built}
-use Rattle.grid.specs.Grid.{GridSlices, build_rows, build_grid}
+use Rattle.std.specs.Prelude.{Ok}
+use Rattle.grid.specs.Grid.{GridSlices, built, build_rows, build_grid}
 use Rattle.invariance.specs.Calls.{State, state_of, after_calls, accumulated_permutation, AcceptedHave}
 use Rattle.invariance.specs.Claim.{Invariant}
 use Rattle.invariance.proofs.Invariance.{renumbering_invariance, renumbering_same_room, renumbering_same_held}
@@ -31,5 +31,5 @@ module _ (n : ℕ) (lo : 1 ≤ n) (hi : n ≤ 80) (mark : Bool) (values : List F
 
   -- And as many conversions are held at an end.
   pub lattice_same_held : (settings : Settings) (lent lent₁ : GridSlices) (g g₁ held held₁ : ℕ)
-      → (build_grid (lattice_mesh n) settings lent).answered ≡ Built g held → (build_grid (after_calls start calls).mesh settings lent₁).answered ≡ Built g₁ held₁ → held₁ ≡ held
+      → (build_grid (lattice_mesh n) settings lent).answered ≡ Ok (built g held) → (build_grid (after_calls start calls).mesh settings lent₁).answered ≡ Ok (built g₁ held₁) → held₁ ≡ held
   lattice_same_held = renumbering_same_held (lattice_mesh n) mark values calls (lattice_mesh_rows n lo hi)

@@ -1,7 +1,6 @@
 -- A list of renumbering calls, and the accumulated permutation that follows it (document 01, "Lists of renumberings, for demand 3"). Definitions only.
-use Rattle.std.specs.Prelude.{ℕ, ◌≡◌, Bool, List, [], ◌∷◌, Float}
+use Rattle.std.specs.Prelude.{ℕ, ◌≡◌, Bool, List, [], ◌∷◌, Float, Ok}
 use Rattle.sequences.specs.Permutation.{identity, compose}
-use Rattle.refusal.specs.declared.Verdict.TheVariants.{Passed}
 use Rattle.refusal.specs.Refusal.{answer}
 use Rattle.mesh.specs.Mesh.{Mesh, count}
 use Rattle.renumber.specs.Renumber.{Call, call_rows, longest_length, apply_vertex_permutation}
@@ -41,4 +40,4 @@ accumulated_permutation start calls =
 -- The accepted calls all have so many entries a vertex.
 abbrev pub AcceptedHave : ℕ → ℕ → ℕ → List Call → Type 0
 AcceptedHave each n longest [] = Unit {0}
-AcceptedHave each n longest (call ∷ calls) = (call_rows n longest call ≡ Passed → call.entries_per_vertex ≡ each) × AcceptedHave each n longest calls
+AcceptedHave each n longest (call ∷ calls) = (call_rows n longest call ≡ Ok tt → call.entries_per_vertex ≡ each) × AcceptedHave each n longest calls

@@ -1,21 +1,19 @@
 -- Demand 3: what is claimed after a list of renumberings (document 01, "After the list, for all v and v', n the count"). Definitions only.
-use Rattle.std.specs.Prelude.{ℕ, ◌+◌, ◌*◌, ◌/◌, ◌≤◌, ◌<◌, ◌≡◌, ◌↔◌, false, length, get_or, drop, Float}
+use Rattle.std.specs.Prelude.{ℕ, ◌+◌, ◌*◌, ◌/◌, ◌≤◌, ◌<◌, ◌≡◌, ◌↔◌, false, length, get_or, drop, Float, Result, Ok, Err}
 use mathlib.Core.List.{List, map, Memᴰ}
 use Rattle.std.specs.Float.{nan}
 use Rattle.std.specs.Float.Ieee.{is_nan}
 use Rattle.sequences.specs.Ascending.{sort}
 use Rattle.sequences.specs.Least.{Alone}
-use Rattle.refusal.specs.declared.Verdict.TheVariants.{Passed}
+use Rattle.refusal.specs.declared.Refusal.{Refusal}
 use Rattle.vector.specs.declared.Vector3.{Vector3}
 use Rattle.vector.specs.Vector.{normalized}
 use Rattle.mesh.specs.Mesh.{Mesh, count, neighbours}
 use Rattle.mesh.specs.Rows.{mesh_rows}
-use Rattle.grid.specs.declared.Build.TheVariants.{Built}
 use Rattle.grid.specs.declared.settings.Settings.{Settings}
 use Rattle.grid.specs.Cells.{cell_count}
-use Rattle.grid.specs.Grid.{Grid, GridSlices, build_grid, cut}
+use Rattle.grid.specs.Grid.{Grid, GridSlices, built, build_grid, cut}
 use Rattle.grid_query.specs.declared.Nearest.{Nearest}
-use Rattle.grid_query.specs.declared.Nearest.TheVariants.{Refused, Found}
 use Rattle.grid_query.specs.Cell.{cell_of_query, candidates, triples_at}
 use Rattle.grid_query.specs.Nearest.{squared_distance, grid_nearest}
 
@@ -28,12 +26,13 @@ pub record LowestAt (distance : ℕ → Float) (ids : List ℕ) (i : ℕ) (d : F
   pub lowest : (j : ℕ) → Memᴰ j ids → distance j ≡ d → i ≤ j
 
 -- "Distance bits and counts are equal. Where one candidate alone has these bits, the later id is p of the earlier". The earlier query's answer over its candidates, and the later one's.
-abbrev pub SameNearest : (ℕ → ℕ) → (ℕ → Float) → List ℕ → (ℕ → Float) → List ℕ → Nearest → Nearest → Type 0
-SameNearest p distance ids distance₁ ids₁ (Refused reason) (Refused reason₁) = reason ≡ reason₁
-SameNearest p distance ids distance₁ ids₁ (Refused reason) (Found i₁ d₁ k₁) = ⊥
-SameNearest p distance ids distance₁ ids₁ (Found i d k) (Refused reason₁) = ⊥
-SameNearest p distance ids distance₁ ids₁ (Found i d k) (Found i₁ d₁ k₁) =
-    (d ≡ d₁) × (is_nan d ≡ false) × (k ≡ k₁) × (k ≡ length ids) × (k₁ ≡ length ids₁) × LowestAt distance ids i d × LowestAt distance₁ ids₁ i₁ d₁ × (Alone distance ids i d → i₁ ≡ p i)
+abbrev pub SameNearest : (ℕ → ℕ) → (ℕ → Float) → List ℕ → (ℕ → Float) → List ℕ → Result Nearest Refusal → Result Nearest Refusal → Type 0
+SameNearest p distance ids distance₁ ids₁ (Err reason) (Err reason₁) = reason ≡ reason₁
+SameNearest p distance ids distance₁ ids₁ (Err reason) (Ok near₁) = ⊥
+SameNearest p distance ids distance₁ ids₁ (Ok near) (Err reason₁) = ⊥
+SameNearest p distance ids distance₁ ids₁ (Ok near) (Ok near₁) =
+    (near.distance ≡ near₁.distance) × (is_nan near.distance ≡ false) × (near.candidates ≡ near₁.candidates) × (near.candidates ≡ length ids) × (near₁.candidates ≡ length ids₁)
+    × LowestAt distance ids near.id near.distance × LowestAt distance₁ ids₁ near₁.id near₁.distance × (Alone distance ids near.id near.distance → near₁.id ≡ p near.id)
 
 -- ---- "Two grids are built, one of the starting mesh and one of the mesh after": `grid` of the mesh m, `grid₁` of the mesh m₁.
 pub record SameGrids (m m₁ : Mesh) (p : ℕ → ℕ) (grid grid₁ : Grid) : Type 0 where
@@ -63,7 +62,7 @@ pub record Invariant (m : Mesh) (values : List Float) (m₁ : Mesh) (values₁ :
   -- "The list of p(v) is v's list with each entry taken through p"; "the mission's last demand compares neighbour lists sorted" (W-208).
   pub lists : (v : ℕ) → v < count m → sort (neighbours m₁ (p v)) ≡ sort (map p (neighbours m v))
   -- "The mesh passes the builder's mesh rows again."
-  pub rows : mesh_rows m₁ ≡ Passed
+  pub rows : mesh_rows m₁ ≡ Ok tt
   -- "In each whole slab, place p(v) holds what v held"
   pub single : AllHave 1 → (s v : ℕ) → s < length values / count m → v < count m
       → get_or values₁ (s * count m + p v) nan ≡ get_or values (s * count m + v) nan
@@ -74,5 +73,5 @@ pub record Invariant (m : Mesh) (values : List Float) (m₁ : Mesh) (values₁ :
   pub data_length : length values₁ ≡ length values
   pub tail : (each : ℕ) → AllHave each → drop (length values / (count m * each) * (count m * each)) values₁ ≡ drop (length values / (count m * each) * (count m * each)) values
   -- Whatever slices the builder was lent, as long as it accepted both. "whichever pair is chosen, grids before and after renumbering are built with the same pair" (W-210)
-  pub grids : (settings : Settings) (lent lent₁ : GridSlices) (g g₁ held held₁ : ℕ) → (build_grid m settings lent).answered ≡ Built g held → (build_grid m₁ settings lent₁).answered ≡ Built g₁ held₁
+  pub grids : (settings : Settings) (lent lent₁ : GridSlices) (g g₁ held held₁ : ℕ) → (build_grid m settings lent).answered ≡ Ok (built g held) → (build_grid m₁ settings lent₁).answered ≡ Ok (built g₁ held₁)
       → SameGrids m m₁ p (cut settings (count m) g (build_grid m settings lent).slices) (cut settings (count m₁) g₁ (build_grid m₁ settings lent₁).slices)

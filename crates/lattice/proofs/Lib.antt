@@ -15,6 +15,8 @@ pub mod Positions
 pub mod Rows
 pub mod Mark
 pub mod Naming
+pub mod Tables
+pub mod IdFill
 pub mod VertexFill
 pub mod Steps
 pub mod Insertion

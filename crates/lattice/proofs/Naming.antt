@@ -1,17 +1,18 @@
 -- Laws of namings, of the points in their order and of the six steps, as a program looks them up. Assumes nothing.
-use Rattle.std.proofs.Common.{◌≡◌, ℕ, zero, suc, ◌+◌, ◌-◌, ◌*◌, ◌/◌, ◌%◌, ◌<◌, ◌≤◌, Bool, true, false, cond, eqb, ltb, ◌≢◌, ◌⊎◌, List, length, get_or, take, sym, refl, ap, ◌∙◌, subst, inl, inr, mul-le-mul_right, add-mul, mul-le-mul, add-one, arith, get_or-take, le-ltb, lt-ltb, eq-eqb, ne_eqb}
+use Rattle.std.proofs.Common.{◌≡◌, ℕ, zero, suc, ◌+◌, ◌-◌, ◌*◌, ◌/◌, ◌%◌, ◌<◌, ◌≤◌, Bool, true, false, cond, eqb, ltb, ◌≢◌, ◌⊎◌, List, length, get_or, take, sym, refl, ap, ◌∙◌, subst, inl, inr, add-mul, add-one, arith, get_or-take, le-ltb, lt-ltb, eq-eqb, ne_eqb}
 use Rattle.booleans.proofs.Booleans.{true_or_false}
 use Rattle.sequences.specs.Starts.{start_of}
 use Rattle.sequences.proofs.Tabulate.{length_tabulate}
 use Rattle.sequences.proofs.Starts.{start_suc, start_zero, length_concatenate}
 use Rattle.sequences.proofs.Range.{last_or_below, below_or_from, equal_or_not}
 use Rattle.icosahedron.specs.Icosahedron.{face_corner}
-use Rattle.icosahedron.specs.Slots.{slots_per_face}
+use Rattle.icosahedron.specs.Slots.{slot_of, slots_per_face}
 use Rattle.icosahedron.proofs.Slots.{slots_per_face_le}
 use Rattle.lattice.specs.Lattice.{LatticePoint, point_at, lattice_points, lattice_vertices, id_of, id_table}
 use Rattle.lattice.specs.Appearances.{OnLattice, is_first_appearance}
 use Rattle.lattice.specs.Shared.{corner_at, edge_at, first_corner, other_edge, firsts_before}
-use Rattle.lattice.specs.Naming.{place_of, point_after, corner_naming, edge_naming, naming}
+use Rattle.lattice.specs.Naming.{place_of, corner_naming, edge_naming, naming}
+use Rattle.lattice.specs.Lent.{HoldsIdTable}
 use Rattle.lattice.proofs.Corners.{corners_distinct, place_unique}
 use Rattle.lattice.proofs.Points.{row_points}
 use Rattle.lattice.proofs.Vertices.{vertex_at, id_below, id_same, earlier_appearance}
@@ -20,115 +21,63 @@ use Rattle.lattice.proofs.SharedFaces.{FirstCornerFace, OtherEdgeFace, interior_
 use Rattle.lattice.proofs.Order.{point_number, firsts_before_suc, first_id, first_vertex_at}
 use Rattle.lattice.proofs.Slots.{id_table_at, row_start, point_place, place_earlier, length_points, length_face_points}
 
--- ---- the last arm of a `match` on a place
-pub corner_at_rest : (n face place : ℕ) → place ≢ 0 → place ≢ 1 → point_at face 0 0 ≡ corner_at n face place
-unfolding corner_at
-corner_at_rest n face zero ne₀ ne₁ = absurd (ne₀ refl)
-corner_at_rest n face (suc zero) ne₀ ne₁ = absurd (ne₁ refl)
-corner_at_rest n face (suc (suc place)) ne₀ ne₁ = refl
+-- ---- the order of the places: a row's points, its face's rows and the faces one behind another
+pub place_first : (n : ℕ) → place_of n (point_at 0 0 0) ≡ 0
+unfolding place_of
+place_first n = let e = row_start n 0 0 0 (omega arith) in let z = start_zero (row_points n 0) in omega arith
 
-pub edge_at_rest : (n face place weight : ℕ) → place ≢ 0 → place ≢ 1 → point_at face weight (n - weight) ≡ edge_at n face place weight
-unfolding edge_at
-edge_at_rest n face zero weight ne₀ ne₁ = absurd (ne₀ refl)
-edge_at_rest n face (suc zero) weight ne₀ ne₁ = absurd (ne₁ refl)
-edge_at_rest n face (suc (suc place)) weight ne₀ ne₁ = refl
+pub place_next : (n face a b : ℕ) → place_of n (point_at face a (b + 1)) ≡ place_of n (point_at face a b) + 1
+unfolding place_of slot_of
+place_next n face a b = omega arith
 
--- ---- places are small
-pub place_bound : (n face slots slot : ℕ) → n ≤ 80 → face ≤ 20 → slots ≡ slots_per_face n → slot < slots → face * slots + slot < 69741
-place_bound n face slots slot le fb e lt =
-    let s : slots ≤ 3321 = rw e (slots_per_face_le n le) in
-    let m : face * slots ≤ 20 * 3321 = mul-le-mul fb s in
+-- the places of a row end where those of the next begin
+pub place_next_row : (n face a b : ℕ) → a ≤ n → b ≡ n - a + 1 → place_of n (point_at face a b) ≡ place_of n (point_at face (a + 1) 0)
+unfolding place_of
+place_next_row n face a b le end =
+    let e = row_start n face a b (omega arith) in
+    let f = row_start n face (a + 1) 0 (omega arith) in
+    let s : start_of (row_points n face) (a + 1) ≡ start_of (row_points n face) a + length (row_points n face a) = ap (start_of (row_points n face)) (add-one a) ∙ start_suc (row_points n face) a in
+    let r = length_tabulate (suc (n - a)) (λ b. point_at face a b) in
     omega arith
 
--- ---- the point behind a point
-row_length : (n face a : ℕ) → length (row_points n face a) ≡ suc (n - a)
-row_length n face a = length_tabulate (suc (n - a)) (λ b. point_at face a b)
-
-pub record Follows (n : ℕ) (p q : LatticePoint) : Type 0 where
-  pub next_place : place_of n q ≡ place_of n p + 1
-  pub within : q.a + q.b ≤ n
-  pub face_at_most : q.face ≤ suc p.face
-
-pub point_after_follows : (n : ℕ) (p : LatticePoint) → p.a + p.b ≤ n → Follows n p (point_after n p)
-unfolding point_after place_of
-point_after_follows n p le = go (below_or_from (p.a + p.b) n) (below_or_from p.a n)
-  where
-    face : ℕ
-    face = p.face
-
-    a : ℕ
-    a = p.a
-
-    b : ℕ
-    b = p.b
-
-    go : (a + b < n) ⊎ (n ≤ a + b) → (a < n) ⊎ (n ≤ a) → Follows n p (point_after n p)
-    go (inl lt) y = rw (lt-ltb (a + b) n lt) (record {
-      next_place = let e = row_start n face a b (omega arith) in let f = row_start n face a (b + 1) (omega arith) in omega arith;
-      within = omega arith;
-      face_at_most = omega arith;
-    })
-    go (inr ge) (inl lt) = rw (le-ltb (a + b) n ge, lt-ltb a n lt) (record {
-      next_place =
-          let e = row_start n face a b (omega arith) in
-          let f = row_start n face (a + 1) 0 (omega arith) in
-          let s : start_of (row_points n face) (a + 1) ≡ start_of (row_points n face) a + length (row_points n face a) = ap (start_of (row_points n face)) (add-one a) ∙ start_suc (row_points n face) a in
-          let r = row_length n face a in
-          omega arith;
-      within = omega arith;
-      face_at_most = omega arith;
-    })
-    go (inr ge) (inr ge₁) = rw (le-ltb (a + b) n ge, le-ltb a n ge₁) (record {
-      next_place =
-          let e = row_start n face a b (omega arith) in
-          let f = row_start n (face + 1) 0 0 (omega arith) in
-          let z = start_zero (row_points n (face + 1)) in
-          let s = start_suc (row_points n face) a in
-          let r = row_length n face a in
-          let all : start_of (row_points n face) (suc a) ≡ slots_per_face n = ap (λ (k : ℕ). start_of (row_points n face) (suc k)) (let q : a ≡ n = omega arith in q) ∙ sym (length_concatenate (suc n) (row_points n face)) ∙ length_face_points n face in
-          let m : (face + 1) * slots_per_face n ≡ face * slots_per_face n + slots_per_face n = simp add-mul (omega arith) in
-          omega arith;
-      within = omega arith;
-      face_at_most = omega arith;
-    })
-
--- ---- a program's point and its place
-pub record AtPlace (n : ℕ) (p : LatticePoint) (place : ℕ) : Type 0 where
-  pub face_at_most : p.face ≤ 20
-  pub within : p.a + p.b ≤ n
-  pub here : place_of n p ≡ place
-
-pub at_first_place : (n : ℕ) → AtPlace n (point_at 0 0 0) 0
+-- and those of a face where those of the next begin
+pub place_next_face : (n face a : ℕ) → a ≡ n + 1 → place_of n (point_at face a 0) ≡ place_of n (point_at (face + 1) 0 0)
 unfolding place_of
-at_first_place n = record {
-  face_at_most = omega arith;
-  within = omega arith;
-  here = let e = row_start n 0 0 0 (omega arith) in let z = start_zero (row_points n 0) in omega arith;
-}
+place_next_face n face a end =
+    let e = row_start n face a 0 (omega arith) in
+    let f = row_start n (face + 1) 0 0 (omega arith) in
+    let z = start_zero (row_points n (face + 1)) in
+    let all : start_of (row_points n face) a ≡ slots_per_face n = ap (start_of (row_points n face)) (end ∙ add-one n) ∙ sym (length_concatenate (suc n) (row_points n face)) ∙ length_face_points n face in
+    let m : (face + 1) * slots_per_face n ≡ face * slots_per_face n + slots_per_face n = simp add-mul (omega arith) in
+    omega arith
 
-module _ {n : ℕ} {p : LatticePoint} {place : ℕ} (at : AtPlace n p place) (lt : place < 20 * slots_per_face n) where
-  pub at_face_below : p.face < 20
-  unfolding place_of
-  at_face_below = go (below_or_from p.face 20)
-    where
-      go : (p.face < 20) ⊎ (20 ≤ p.face) → p.face < 20
-      go (inl l) = l
-      go (inr ge) = absurd (let m : 20 * slots_per_face n ≤ p.face * slots_per_face n = mul-le-mul_right (slots_per_face n) ge in let h = at.here in let z : ⊥ = omega arith in z)
+pub place_last : (n face : ℕ) → face ≡ 20 → place_of n (point_at face 0 0) ≡ 20 * slots_per_face n
+unfolding place_of
+place_last n face end = let f = row_start n face 0 0 (omega arith) in let z = start_zero (row_points n face) in let m : face * slots_per_face n ≡ 20 * slots_per_face n = ap (λ (k : ℕ). k * slots_per_face n) end in omega arith
 
-  pub at_on_lattice : OnLattice n p
-  at_on_lattice = record { face_below = at_face_below; weights_within = at.within }
+-- a point of the face that a loop's index names
+pub point_on_face : {q : LatticePoint} {face index a b : ℕ} → face ≡ index → q ≡ point_at face a b → q ≡ point_at index a b
+point_on_face e h = rw (← e) h
 
+pub place_limit : (n : ℕ) (p : LatticePoint) → n ≤ 80 → OnLattice n p → place_of n p < 66420
+unfolding place_of
+place_limit n p le on =
+    let before = place_earlier n p.face 20 p.a p.b on.face_below on.weights_within in
+    let s = slots_per_face_le n le in
+    omega arith
+
+pub place_below : (n : ℕ) (p : LatticePoint) → OnLattice n p → place_of n p < 20 * slots_per_face n
+unfolding place_of
+place_below n p on = place_earlier n p.face 20 p.a p.b on.face_below on.weights_within
+
+-- ---- the point at a place of the order
+module _ {n : ℕ} {p : LatticePoint} {place : ℕ} (on : OnLattice n p) (here : place ≡ place_of n p) where
   pub at_point : point_number n place ≡ p
   unfolding place_of
-  at_point = ap (point_number n) (sym at.here) ∙ point_place n p.face p.a p.b (point_at 0 0 0) at_face_below at.within
-
-  pub at_next_place : AtPlace n (point_after n p) (place + 1)
-  at_next_place =
-      let f = point_after_follows n p at.within in
-      record { face_at_most = let l = at_face_below in let m = f.face_at_most in omega arith; within = f.within; here = f.next_place ∙ ap (λ (k : ℕ). k + 1) at.here }
+  at_point = ap (point_number n) here ∙ point_place n p.face p.a p.b (point_at 0 0 0) on.face_below on.weights_within
 
   place_listed : place < length (lattice_points n)
-  place_listed = rw (length_points n) lt
+  place_listed = rw (length_points n, here) (place_below n p on)
 
 -- ---- a vertex's first appearance by the tables
 pub record Names (n : ℕ) (q p : LatticePoint) : Type 0 where
@@ -227,15 +176,15 @@ firsts_before_monotone n j (suc k) le lk = go (last_or_below j (suc k) (omega ar
     go (inr lt) h = let g = h (omega arith) in let s = firsts_before_suc n k lk in omega arith
 
 -- ---- the id table, place by place
-module _ {n : ℕ} {p : LatticePoint} {place next : ℕ} (lo : 1 ≤ n) (at : AtPlace n p place) (lt : place < 20 * slots_per_face n) (counted : next ≡ firsts_before n place) where
+module _ {n : ℕ} {p : LatticePoint} {place next : ℕ} (lo : 1 ≤ n) (on : OnLattice n p) (here : place ≡ place_of n p) (counted : next ≡ firsts_before n place) where
   id_here : get_or (id_table n) place 0 ≡ id_of n p
   unfolding place_of
-  id_here = ap (λ (k : ℕ). get_or (id_table n) k 0) (sym at.here) ∙ id_table_at n p.face p.a p.b (at_face_below at lt) at.within
+  id_here = ap (λ (k : ℕ). get_or (id_table n) k 0) here ∙ id_table_at n p.face p.a p.b on.face_below on.weights_within
 
   counted_after : (b : Bool) → is_first_appearance n p ≡ b → firsts_before n (place + 1) ≡ next + cond b 1 0
   counted_after b h =
-      ap (firsts_before n) (add-one place) ∙ firsts_before_suc n place (place_listed at lt)
-      ∙ (rw (at_point at lt, h) (ap (λ (k : ℕ). k + cond b 1 0) (sym counted)))
+      ap (firsts_before n) (add-one place) ∙ firsts_before_suc n place (place_listed on here)
+      ∙ (rw (at_point on here, h) (ap (λ (k : ℕ). k + cond b 1 0) (sym counted)))
 
   pub record Named (next-after : ℕ) (id : ℕ) : Type 0 where
     pub is_id : id ≡ get_or (id_table n) place 0
@@ -243,19 +192,19 @@ module _ {n : ℕ} {p : LatticePoint} {place next : ℕ} (lo : 1 ≤ n) (at : At
     pub below : id < length (lattice_vertices n)
 
   first_has_next : is_first_appearance n p ≡ true → id_of n p ≡ next
-  first_has_next h = ap (id_of n) (sym (at_point at lt)) ∙ first_id n place (place_listed at lt) (ap (is_first_appearance n) (at_point at lt) ∙ h) ∙ sym counted
+  first_has_next h = ap (id_of n) (sym (at_point on here)) ∙ first_id n place (place_listed on here) (ap (is_first_appearance n) (at_point on here) ∙ h) ∙ sym counted
 
   -- a first appearance has the next id
   pub named_first : is_first_appearance n p ≡ true → Named (next + 1) next
   named_first h = record {
     is_id = sym (id_here ∙ first_has_next h);
     counts = sym (counted_after true h);
-    below = rw (sym (first_has_next h)) (id_below n p (at_on_lattice at lt));
+    below = rw (sym (first_has_next h)) (id_below n p on);
   }
 
   -- a point that is its own naming is new
   pub named_own : (named : ℕ) → named ≡ place_of n (naming n p) → named ≡ place → Named (next + 1) next
-  named_own named found e = named_first ((naming_names n p lo (at_on_lattice at lt)).new_where_own ∙ eq-eqb _ _ (sym found ∙ e ∙ sym at.here))
+  named_own named found e = named_first ((naming_names n p lo on).new_where_own ∙ eq-eqb _ _ (sym found ∙ e ∙ here))
 
   -- any other has the id of its naming, which stands before it
   pub record NamedBefore (named : ℕ) : Type 0 where
@@ -266,12 +215,12 @@ module _ {n : ℕ} {p : LatticePoint} {place next : ℕ} (lo : 1 ≤ n) (at : At
   pub named_before : (named : ℕ) → named ≡ place_of n (naming n p) → named ≢ place → NamedBefore named
   unfolding place_of
   named_before named found d =
-      let names = naming_names n p lo (at_on_lattice at lt) in
+      let names = naming_names n p lo on in
       let q = naming n p in
-      let differs : place_of n q ≢ place_of n p = λ e. d (found ∙ e ∙ at.here) in
+      let differs : place_of n q ≢ place_of n p = λ e. d (found ∙ e ∙ sym here) in
       let at_most = names.place_at_most in
       record {
-        is_before = omega (arith, at.here, found);
+        is_before = omega (arith, here, found);
         is_id = ap (λ (k : ℕ). get_or (id_table n) k 0) found ∙ id_table_at n q.face q.a q.b names.on_lattice.face_below names.on_lattice.weights_within ∙ names.same_id ∙ sym id_here;
         counts = sym (counted_after false (names.new_where_own ∙ ne_eqb _ _ differs) ∙ (let z : next + 0 ≡ next = omega arith in z));
       }
@@ -279,17 +228,17 @@ module _ {n : ℕ} {p : LatticePoint} {place next : ℕ} (lo : 1 ≤ n) (at : At
   -- a point that is no first appearance has an id that was given before
   not_first_before : is_first_appearance n p ≡ false → id_of n p < next
   not_first_before h =
-      let q = earlier_appearance n p (at_on_lattice at lt) h in
+      let q = earlier_appearance n p on h in
       let f = q.first.point in
-      let on = q.first.on_lattice in
-      let before : place_of n f < place = (let l = place_before n f p on q.is_earlier in omega (arith, at.here)) in
-      let listed : place_of n f < length (lattice_points n) = rw (length_points n) (omega arith) in
-      let point : point_number n (place_of n f) ≡ f = point_at_place n f on in
+      let onf = q.first.on_lattice in
+      let before : place_of n f < place = (let l = place_before n f p onf q.is_earlier in omega (arith, here)) in
+      let listed : place_of n f < length (lattice_points n) = rw (length_points n) (place_below n f onf) in
+      let point : point_number n (place_of n f) ≡ f = point_at_place n f onf in
       let id : id_of n p ≡ firsts_before n (place_of n f) =
       sym (id_same n f p q.first.same_weights) ∙ ap (id_of n) (sym point) ∙ first_id n (place_of n f) listed (ap (is_first_appearance n) point ∙ q.first.is_first) in
       let one : firsts_before n (suc (place_of n f)) ≡ firsts_before n (place_of n f) + 1 =
       firsts_before_suc n (place_of n f) listed ∙ (rw (point, q.first.is_first) refl) in
-      let grows = firsts_before_monotone n (suc (place_of n f)) place (omega arith) (omega (arith, place_listed at lt)) in
+      let grows = firsts_before_monotone n (suc (place_of n f)) place (omega arith) (omega (arith, place_listed on here)) in
       omega (arith, counted)
 
   -- so a point with the next id is the next vertex
@@ -305,7 +254,7 @@ module _ {n : ℕ} {p : LatticePoint} {place next : ℕ} (lo : 1 ≤ n) (at : At
       go (inl t) =
           let named = named_first t in
           record {
-            is_vertex = ap (vertex_at n) counted ∙ first_vertex_at n place (place_listed at lt) (ap (is_first_appearance n) (at_point at lt) ∙ t) ∙ at_point at lt;
+            is_vertex = ap (vertex_at n) counted ∙ first_vertex_at n place (place_listed on here) (ap (is_first_appearance n) (at_point on here) ∙ t) ∙ at_point on here;
             below = named.below;
             counts = named.counts;
           }
@@ -320,12 +269,12 @@ module _ {n : ℕ} {p : LatticePoint} {place next : ℕ} (lo : 1 ≤ n) (at : At
       go (inr f) = sym (counted_after false f ∙ (let z : next + 0 ≡ next = omega arith in z))
 
 -- ---- what a filled id table holds at a point's place
-pub place_below : (n : ℕ) (p : LatticePoint) → OnLattice n p → place_of n p < 20 * slots_per_face n
-unfolding place_of
-place_below n p on = place_earlier n p.face 20 p.a p.b on.face_below on.weights_within
-
 pub table_read : (n : ℕ) (ids : List ℕ) (p : LatticePoint) (place : ℕ) → take (20 * slots_per_face n) ids ≡ id_table n → OnLattice n p → place ≡ place_of n p → get_or ids place 0 ≡ id_of n p
 unfolding place_of
 table_read n ids p place tabled on e =
     ap (λ (k : ℕ). get_or ids k 0) e ∙ sym (get_or-take (20 * slots_per_face n) ids (place_of n p) 0 (place_below n p on)) ∙ ap (λ (l : List ℕ). get_or l (place_of n p) 0) tabled
     ∙ id_table_at n p.face p.a p.b on.face_below on.weights_within
+
+-- a table of the point's own lattice
+pub held_ids : (ids : List ℕ) {n own : ℕ} → own ≡ n → HoldsIdTable n ids → HoldsIdTable own ids
+held_ids ids e h = rw e h

@@ -1,10 +1,10 @@
 -- Every lattice of a frequency from 1 to 80 passes rows 2 to 4, the mesh rows of the walk, the renumbering and the reading call (`lattice_rows`), and row 5 too, so the builder's (`lattice_mesh_rows`). Assumes nothing.
-use Rattle.std.proofs.Common.{◌≡◌, ℕ, suc, ◌-◌, ◌*◌, ◌<◌, ◌≤◌, Bool, true, false, cond, length, get_or, sym, ap, ◌∙◌, subst, mul-le-mul, arith}
+use Rattle.std.proofs.Common.{◌≡◌, ℕ, suc, ◌-◌, ◌*◌, ◌<◌, ◌≤◌, Bool, true, false, cond, length, get_or, sym, ap, ◌∙◌, subst, mul-le-mul, arith, Ok}
 use lib.Ieee.Bits.{is_true}
 use Rattle.sequences.specs.Starts.{CompressedRows}
 use Rattle.sequences.proofs.Tabulate.{get_d_member}
 use Rattle.sequences.proofs.Starts.{compressed_rows, concatenate_member, starts_at, start_suc}
-use Rattle.refusal.specs.declared.Verdict.TheVariants.{Passed}
+use Rattle.refusal.specs.Refusal.{Verdict}
 use Rattle.vector.specs.Direction.{admissible}
 use Rattle.mesh.specs.Rows.{longest_list, adjacency_rows, mesh_rows}
 use Rattle.mesh.proofs.Facts.{AdjacencyFacts, adjacency_passed, mesh_passed}
@@ -67,11 +67,11 @@ module _ (n : ℕ) (lo : 1 ≤ n) where
         }
 
     -- rows 2 to 4
-    pub lattice_rows : adjacency_rows (lattice_mesh n) ≡ Passed
+    pub lattice_rows : ◌≡◌ {A = Verdict} (adjacency_rows (lattice_mesh n)) (Ok tt)
     lattice_rows = adjacency_passed (lattice_mesh n) adjacency
 
     -- rows 2 to 5
-    pub lattice_mesh_rows : mesh_rows (lattice_mesh n) ≡ Passed
+    pub lattice_mesh_rows : ◌≡◌ {A = Verdict} (mesh_rows (lattice_mesh n)) (Ok tt)
     lattice_mesh_rows = mesh_passed (lattice_mesh n) (record {
       adjacency = adjacency;
       admissible_positions = λ v lt.

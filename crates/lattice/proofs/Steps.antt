@@ -1,9 +1,11 @@
 -- Laws of the six steps by their numbers: where each leads, and that they are all. Assumes nothing.
-use Rattle.std.proofs.Common.{◌≡◌, ℕ, zero, suc, ◌+◌, ◌-◌, ◌<◌, ◌≤◌, ◌≢◌, ◌⊎◌, sym, refl, ap, ◌∙◌, inl, inr, arith, eq-eqb, ne_eqb}
+use Rattle.std.proofs.Common.{◌≡◌, ℕ, zero, suc, ◌+◌, ◌-◌, ◌<◌, ◌≤◌, ◌≢◌, ◌⊎◌, [], ◌∷◌, get_or, sym, refl, ap, ◌∙◌, inl, inr, arith, eq-eqb, ne_eqb}
 use Rattle.sequences.proofs.Range.{equal_or_not}
 use Rattle.lattice.specs.Lattice.{LatticePoint, point_at}
 use Rattle.lattice.specs.Appearances.{OnLattice}
-use Rattle.lattice.specs.Naming.{place_of, step_from}
+use Rattle.lattice.specs.declared.face_points.Step as Program
+use Rattle.lattice.specs.declared.face_points.Step.TheVariants.{FirstToThird, FirstToSecond, SecondToThird, SecondToFirst, ThirdToSecond, ThirdToFirst}
+use Rattle.lattice.specs.Naming.{place_of, step_from, step_number as number_of_step}
 use Rattle.lattice.proofs.Neighbours.{Step, b_to_a, c_to_a, c_to_b, a_to_b, a_to_c, b_to_c}
 use Rattle.lattice.proofs.Order.{point_number}
 use Rattle.lattice.proofs.Naming.{point_at_place}
@@ -141,3 +143,13 @@ module _ (n face a b a₁ b₁ : ℕ) (to-within : a₁ + b₁ ≤ n) where
 -- different points have different places
 pub places_differ : (n : ℕ) (q p : LatticePoint) → OnLattice n q → OnLattice n p → q ≢ p → place_of n q ≢ place_of n p
 places_differ n q p onq onp d e = d (sym (point_at_place n q onq) ∙ ap (point_number n) e ∙ point_at_place n p onp)
+
+-- the program's steps stand in the order of their numbers
+pub step_number_at : (d : Program.Step) (i : ℕ) → i < 6 → number_of_step (get_or (FirstToThird ∷ FirstToSecond ∷ SecondToThird ∷ SecondToFirst ∷ ThirdToSecond ∷ ThirdToFirst ∷ []) i d) ≡ i
+step_number_at d zero lt = refl
+step_number_at d (suc zero) lt = refl
+step_number_at d (suc (suc zero)) lt = refl
+step_number_at d (suc (suc (suc zero))) lt = refl
+step_number_at d (suc (suc (suc (suc zero)))) lt = refl
+step_number_at d (suc (suc (suc (suc (suc zero))))) lt = refl
+step_number_at d (suc (suc (suc (suc (suc (suc i)))))) lt = absurd (let z : ⊥ = omega arith in z)

@@ -1,33 +1,43 @@
 -- Laws of a loop that writes positions and list starts, vertex by vertex, and of the lengths of lists by a point's weights. Assumes nothing.
-use Rattle.std.proofs.Common.{◌≡◌, ℕ, suc, ◌+◌, ◌-◌, ◌*◌, ◌<◌, ◌≤◌, Bool, true, false, cond, ltb, ◌≢◌, List, length, get_or, take, set, sym, refl, ap, ◌∙◌, subst, add-one, arith, get_or-take, ltb-false, le-ltb, lt-ltb}
+use Rattle.std.proofs.Common.{◌≡◌, ℕ, suc, ◌+◌, ◌-◌, ◌*◌, ◌<◌, ◌≤◌, Bool, true, false, ◌||◌, cond, ltb, eqb, ◌≢◌, ◌⊎◌, inl, inr, eq-eqb, ne_eqb, List, length, get_or, take, set, sym, refl, ap, ◌∙◌, subst, add-one, arith, get_or-take, ltb-false, le-ltb, lt-ltb}
 use lib.Ieee.{Float, nan}
 use Rattle.sequences.specs.Tabulate.{overwrite, Overwritten}
 use Rattle.sequences.specs.Starts.{start_of}
 use Rattle.sequences.proofs.Tabulate.{overwritten_none, overwritten_set, overwritten_all}
+use Rattle.sequences.proofs.Range.{equal_or_not}
 use Rattle.sequences.proofs.Starts.{start_zero, start_suc, length_starts, starts_at}
 use Rattle.vector.specs.declared.Vector3.{Vector3}
-use Rattle.lattice.specs.Lattice.{LatticePoint, point_at, lattice_vertices, lattice_list, lattice_mesh, point_position}
+use Rattle.lattice.specs.Lattice.{LatticePoint, lattice_vertices, lattice_list, lattice_mesh, point_position}
 use Rattle.lattice.specs.Appearances.{is_single, is_corner}
-use Rattle.lattice.specs.Naming.{point_after}
+use Rattle.icosahedron.specs.Slots.{IsFrequency, slots_per_face}
+use Rattle.lattice.specs.Lattice.{id_table}
+use Rattle.lattice.specs.Appearances.{OnLattice}
+use Rattle.lattice.specs.Shared.{firsts_before}
+use Rattle.lattice.specs.Naming.{place_of}
+use Rattle.lattice.specs.Lent.{HoldsIdTable}
 use Rattle.lattice.proofs.Vertices.{vertex_at}
+use Rattle.lattice.proofs.Order.{firsts_before_all}
+use Rattle.lattice.proofs.Slots.{length_points}
+use Rattle.lattice.proofs.Rows.{vertex_count_bounds}
+use Rattle.lattice.proofs.Naming.{place_below, NewVertex, new_vertex, known_vertex}
 use Rattle.lattice.proofs.Neighbours.{length_positions, position_at}
 use Rattle.lattice.proofs.ListLengths.{lattice_list_length, lattice_list_start}
 
 -- ---- corners by their weights
 module _ (n : ℕ) (p : LatticePoint) (lo : 1 ≤ n) (within : p.a + p.b ≤ n) where
-  pub corner_first_weight : p.a ≡ n → is_corner n p ≡ true
+  corner_first_weight : p.a ≡ n → is_corner n p ≡ true
   unfolding is_corner is_single
   corner_first_weight e = rw (lt-ltb 0 p.a (omega arith), le-ltb 0 p.b (omega arith), le-ltb 0 (n - p.a - p.b) (omega arith)) refl
 
-  pub corner_second_weight : p.b ≡ n → is_corner n p ≡ true
+  corner_second_weight : p.b ≡ n → is_corner n p ≡ true
   unfolding is_corner is_single
   corner_second_weight e = rw (le-ltb 0 p.a (omega arith), lt-ltb 0 p.b (omega arith), le-ltb 0 (n - p.a - p.b) (omega arith)) refl
 
-  pub corner_third_weight : p.a + p.b ≡ 0 → is_corner n p ≡ true
+  corner_third_weight : p.a + p.b ≡ 0 → is_corner n p ≡ true
   unfolding is_corner is_single
   corner_third_weight e = rw (le-ltb 0 p.a (omega arith), le-ltb 0 p.b (omega arith), lt-ltb 0 (n - p.a - p.b) (omega arith)) refl
 
-  pub no_corner : p.a ≢ n → p.b ≢ n → p.a + p.b ≢ 0 → is_corner n p ≡ false
+  no_corner : p.a ≢ n → p.b ≢ n → p.a + p.b ≢ 0 → is_corner n p ≡ false
   unfolding is_corner is_single
   no_corner a b c = go (ltb 0 p.a) refl (ltb 0 p.b) refl (ltb 0 (n - p.a - p.b)) refl
     where
@@ -39,19 +49,19 @@ module _ (n : ℕ) (p : LatticePoint) (lo : 1 ≤ n) (within : p.a + p.b ≤ n) 
       go false ea true eb false ec = absurd (let u = ltb-false 0 p.a ea in let v = ltb-false 0 (n - p.a - p.b) ec in let w : ⊥ = omega arith in w)
       go false ea false eb z ec = absurd (let u = ltb-false 0 p.a ea in let v = ltb-false 0 p.b eb in let w : ⊥ = omega arith in w)
 
+  -- a point is a corner where one weight is n
+  pub corner_by_weights : is_corner n p ≡ (eqb p.a n || (eqb p.b n || eqb (p.a + p.b) 0))
+  corner_by_weights = go (equal_or_not p.a n) (equal_or_not p.b n) (equal_or_not (p.a + p.b) 0)
+    where
+      go : (p.a ≡ n) ⊎ (p.a ≢ n) → (p.b ≡ n) ⊎ (p.b ≢ n) → (p.a + p.b ≡ 0) ⊎ (p.a + p.b ≢ 0) → is_corner n p ≡ (eqb p.a n || (eqb p.b n || eqb (p.a + p.b) 0))
+      go (inl a) b c = rw (corner_first_weight a, eq-eqb p.a n a) refl
+      go (inr a) (inl b) c = rw (corner_second_weight b, ne_eqb p.a n a, eq-eqb p.b n b) refl
+      go (inr a) (inr b) (inl c) = rw (corner_third_weight c, ne_eqb p.a n a, ne_eqb p.b n b, eq-eqb (p.a + p.b) 0 c) refl
+      go (inr a) (inr b) (inr c) = rw (no_corner a b c, ne_eqb p.a n a, ne_eqb p.b n b, ne_eqb (p.a + p.b) 0 c) refl
+
 pub five_or_six : (b : Bool) → ◌≤◌ (cond b 5 6) 6
 five_or_six true = omega arith
 five_or_six false = omega arith
-
--- a face's first point is the one without weight on its first two corners: before any other point stands one of its face
-pub same_face : (n : ℕ) (p q : LatticePoint) → q ≡ point_after n p → q.a + q.b ≢ 0 → q.face ≡ p.face
-unfolding point_after
-same_face n p q e d = go (ltb (p.a + p.b) n) (ltb p.a n) e
-  where
-    go : (x y : Bool) → q ≡ cond x (point_at p.face p.a (p.b + 1)) (cond y (point_at p.face (p.a + 1) 0) (point_at (p.face + 1) 0 0)) → q.face ≡ p.face
-    go true y is = ap (λ (r : LatticePoint). r.face) is
-    go false true is = ap (λ (r : LatticePoint). r.face) is
-    go false false is = absurd (d (ap (λ (r : LatticePoint). r.a + r.b) is))
 
 -- ---- what the mesh holds at a vertex
 start_here : (n v : ℕ) → v ≤ length (lattice_vertices n) → get_or (lattice_mesh n).starts v 0 ≡ start_of (lattice_list n) v
@@ -118,6 +128,42 @@ module _ {n : ℕ} {positions₀ : List Float} {starts₀ : List ℕ} {positions
 pub start_bound : {n : ℕ} {positions₀ : List Float} {starts₀ : List ℕ} {positions : List Float} {starts : List ℕ} {vertex start : ℕ} → VerticesFilled n positions₀ starts₀ positions starts vertex start
     → 1 ≤ n → vertex ≤ length (lattice_vertices n) → start ≤ 6 * vertex
 start_bound {n} {vertex} h lo le = let e = lattice_list_start n vertex lo le in omega (arith, h.start_is)
+
+-- ---- a turn of the loop
+module _ {n : ℕ} {positions₀ : List Float} {starts₀ : List ℕ} {positions : List Float} {starts : List ℕ} {vertex start place : ℕ} {p : LatticePoint} (ids : List ℕ) (range : IsFrequency n)
+    (holds : HoldsIdTable n ids) (on : OnLattice n p) (here : place ≡ place_of n p) (counted : vertex ≡ firsts_before n place) (h : VerticesFilled n positions₀ starts₀ positions starts vertex start) where
+  pub id_read_room : place < length ids
+  id_read_room = omega (arith, here, place_below n p on, holds.0)
+
+  tabled : get_or ids place 0 ≡ get_or (id_table n) place 0
+  tabled =
+      sym (get_or-take (20 * slots_per_face n) ids place 0 (let b = place_below n p on in omega (arith, here))) ∙ ap (λ (l : List ℕ). get_or l place 0) holds.1
+
+  -- a point with another id is no new vertex
+  pub vertex_known : get_or ids place 0 ≢ vertex → vertex ≡ firsts_before n (place + 1)
+  vertex_known d = known_vertex range.0 on here counted (λ e. d (tabled ∙ e))
+
+  module _ (next : get_or ids place 0 ≡ vertex) where
+    new : NewVertex range.0 on here counted
+    new = new_vertex range.0 on here counted (sym tabled ∙ next)
+
+    pub vertex_below : vertex < length (lattice_vertices n)
+    vertex_below = new.below
+
+    pub vertex_counted : vertex + 1 ≡ firsts_before n (place + 1)
+    vertex_counted = new.counts
+
+    -- the list starts stay below u32's limit
+    pub vertex_limits : (start ≤ 6 * vertex) × (vertex < 64002)
+    vertex_limits = (start_bound h range.0 (let b = new.below in omega arith), omega (arith, new.below, (vertex_count_bounds n range.0 range.1).1))
+
+    pub vertex_written : {v : Vector3} {entries : ℕ} → length (lattice_mesh n).positions ≤ length positions₀ → length (lattice_mesh n).starts ≤ length starts₀ → v ≡ point_position n p → entries ≡ cond (is_corner n p) 5 6
+        → VerticesFilled n positions₀ starts₀ (set (set (set positions (vertex * 3) v.x) (vertex * 3 + 1) v.y) (vertex * 3 + 2) v.z) (set starts vertex start) (vertex + 1) (start + entries)
+    vertex_written room-positions room_starts position entries = vertices_next room-positions room_starts h range.0 new.below new.is_vertex position entries
+
+-- behind the last point all vertices are written
+pub vertices_counted : (n : ℕ) {vertex place : ℕ} → place ≡ 20 * slots_per_face n → vertex ≡ firsts_before n place → vertex ≡ length (lattice_vertices n)
+vertices_counted n e counted = counted ∙ ap (firsts_before n) (e ∙ sym (length_points n)) ∙ firsts_before_all n
 
 -- what filled starts hold at a vertex
 pub starts_read : (n : ℕ) (starts : List ℕ) (v : ℕ) → take (length (lattice_mesh n).starts) starts ≡ (lattice_mesh n).starts → v ≤ length (lattice_vertices n) → get_or starts v 0 ≡ start_of (lattice_list n) v

@@ -1,13 +1,12 @@
 -- The lattice of frequency n (document 01, "Lattice of frequency n"). Definitions only.
-use Rattle.std.specs.Prelude.{ℕ, suc, ◌+◌, ◌-◌, Bool, true, cond, ◌&&◌, ◌||◌, List, [], ◌∷◌, ◌++◌, map, length, ◌==◌, nat_le, slice_index_or, Float}
+use Rattle.std.specs.Prelude.{ℕ, suc, ◌+◌, ◌-◌, Bool, true, cond, ◌&&◌, ◌||◌, List, [], ◌∷◌, ◌++◌, map, length, ◌==◌, nat_le, slice_index_or, Float, Ok, Err}
 use Rattle.sequences.specs.Range.{some_below}
 use Rattle.sequences.specs.Tabulate.{tabulate, overwrite}
 use Rattle.sequences.specs.Starts.{concatenate, starts_of}
 use Rattle.sequences.specs.Filter.{filter_range}
 use Rattle.sequences.specs.Equality.{same_numbers}
-use Rattle.refusal.specs.declared.Verdict.{Verdict}
-use Rattle.refusal.specs.declared.Verdict.TheVariants.{Passed, Refused}
-use Rattle.refusal.specs.Refusal.{refusal, row, answer}
+use Rattle.refusal.specs.declared.Refusal.TheVariants.{Room}
+use Rattle.refusal.specs.Refusal.{Verdict, row, answer}
 use Rattle.binary64.specs.Convert.{whole}
 use Rattle.vector.specs.declared.Vector3.{Vector3}
 use Rattle.vector.specs.Vector.{coordinates, vector_sum, vector_multiple, vector_quotient, normalized}
@@ -153,10 +152,10 @@ filled_lattice n lent =
 
 -- Rows 1, 8.
 abbrev pub geometry_rows : ℕ → LatticeSlices → Verdict
-geometry_rows n lent = frequency_row n (row (lattice_slices_fit n lent) (refusal 8) Passed)
+geometry_rows n lent = frequency_row n (row (lattice_slices_fit n lent) Room (Ok tt))
 
 -- "a lattice and an accepted renumbering set it" (W-208): the mark, which a refused call leaves as it leaves the slices.
 unfoldable pub lattice_geometry : ℕ → LatticeSlices → Bool → LatticeOutcome
 lattice_geometry n lent mark =
-    answer (geometry_rows n lent) (λ reason. record { answered = Refused reason; slices = lent; mark = mark })
-    (record { answered = Passed; slices = filled_lattice n lent; mark = true })
+    answer (geometry_rows n lent) (λ reason. record { answered = Err reason; slices = lent; mark = mark })
+    (record { answered = Ok tt; slices = filled_lattice n lent; mark = true })

@@ -1,23 +1,19 @@
--- What a program looks up as it goes through the points in order: the place of a point, the point behind it, the earliest tabled naming of its vertex, and its six steps. Definitions only.
+-- What a program looks up as it goes through the points in order: the place of a point, the earliest tabled naming of its vertex, and its six steps. Definitions only.
 use Rattle.std.specs.Prelude.{ℕ, zero, suc, ◌+◌, ◌-◌, ◌*◌, ◌/◌, ◌%◌, cond, ◌==◌, nat_lt}
 use Rattle.icosahedron.specs.Slots.{slot_of, slots_per_face}
 use Rattle.lattice.specs.declared.face_points.FacePoint.{FacePoint}
+use Rattle.lattice.specs.declared.face_points.Step.{Step}
+use Rattle.lattice.specs.declared.face_points.Step.TheVariants.{FirstToThird, FirstToSecond, SecondToThird, SecondToFirst, ThirdToSecond, ThirdToFirst}
 use Rattle.lattice.specs.Lattice.{LatticePoint, point_at}
 use Rattle.lattice.specs.Shared.{corner_at, edge_at, first_corner, other_edge}
 
 -- The program's point.
 abbrev pub point_of : FacePoint → LatticePoint
-point_of p = point_at p.face p.a p.b
+point_of p = point_at p.face.index p.a p.b
 
 -- The place of a point among all: "the twenty faces' slots, one face behind another".
 unfoldable pub place_of : ℕ → LatticePoint → ℕ
 place_of n p = p.face * slots_per_face n + slot_of n p.a p.b
-
--- "Order: master faces 0 to 19; a from 0 to n; b from 0 to n − a": the point behind p. Behind the last stands the first point of a face 20.
-unfoldable pub point_after : ℕ → LatticePoint → LatticePoint
-point_after n p =
-    cond (nat_lt (p.a + p.b) n) (point_at p.face p.a (p.b + 1))
-    (cond (nat_lt p.a n) (point_at p.face (p.a + 1) 0) (point_at (p.face + 1) 0 0))
 
 -- A corner, on the face that has it first.
 unfoldable pub corner_naming : ℕ → ℕ → ℕ → LatticePoint
@@ -45,3 +41,12 @@ step_from n p (suc (suc zero)) = cond (p.b == 0) p (point_at p.face p.a (p.b - 1
 step_from n p (suc (suc (suc zero))) = cond (p.b == 0) p (point_at p.face (p.a + 1) (p.b - 1))
 step_from n p (suc (suc (suc (suc zero)))) = cond (p.a + p.b == n) p (point_at p.face p.a (p.b + 1))
 step_from n p (suc (suc (suc (suc (suc step))))) = cond (p.a + p.b == n) p (point_at p.face (p.a + 1) p.b)
+
+-- The number of the program's step.
+abbrev pub step_number : Step → ℕ
+step_number FirstToThird = 0
+step_number FirstToSecond = 1
+step_number SecondToThird = 2
+step_number SecondToFirst = 3
+step_number ThirdToSecond = 4
+step_number ThirdToFirst = 5

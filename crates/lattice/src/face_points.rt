@@ -1,153 +1,136 @@
 // The points of the master faces: corners, edges, their order, and the six steps from one to another.
-ghost use Rattle.std.specs.Prelude.{◌≡◌, ◌+◌, ◌<◌, ◌≤◌};
-ghost use Rattle.lattice.specs.Shared.{corner_at, edge_at};
-ghost use Rattle.lattice.specs.Naming.{point_of, place_of, point_after, step_from};
-ghost use Rattle.lattice.specs.Inside.{is_inside};
+ghost use Rattle.std.specs.Prelude.{◌≡◌, ◌+◌, ◌≤◌, if◌then◌else◌};
+ghost use Rattle.lattice.specs.Lattice.{point_at};
+ghost use Rattle.lattice.specs.Appearances.{OnLattice};
 
-use icosahedron::{slots_per_face, tri_index};
+use icosahedron::{Corner, Face, Frequency};
 
-// A point of a master face: a on the first corner, b on the second, the rest on the third.
-#[derive(Clone, Copy)]
+// A point of a master face of a lattice: a on the first corner, b on the second, the rest on the third.
+#[derive(Clone, Copy, Debug)]
 pub struct FacePoint {
-    pub face: usize,
+    pub frequency: Frequency,
+    pub face: Face,
     pub a: usize,
     pub b: usize,
+    pub ghost on_lattice: { OnLattice frequency.n (point_at face.index a b) },
 }
 
-// The point with all weight on the corner at a place.
-pub fn corner_at(n: usize, face: usize, place: usize) -> FacePoint
-    requires { n ≤ 80 }
-    ensures { point_of result ≡ corner_at n face place }
-{
-    match place {
-        0 => FacePoint { face, a: n, b: 0 },
-        1 => FacePoint { face, a: 0, b: n },
-        _ => FacePoint { face, a: 0, b: 0 },
-    }
+// The six steps that keep a + b + c, by the weight that falls and the weight that rises.
+#[derive(Clone, Copy, Debug, PartialEq, Eq)]
+pub enum Step {
+    FirstToThird,
+    FirstToSecond,
+    SecondToThird,
+    SecondToFirst,
+    ThirdToSecond,
+    ThirdToFirst,
 }
 
-// A point of the edge opposite to a place, with its weight on the next place.
-pub fn edge_at(n: usize, face: usize, place: usize, weight: usize) -> FacePoint
-    requires { weight ≤ n }
-    ensures { point_of result ≡ edge_at n face place weight }
-{
-    match place {
-        0 => FacePoint {
+impl Step {
+    pub const ALL: [Step; 6] = [
+        Step::FirstToThird,
+        Step::FirstToSecond,
+        Step::SecondToThird,
+        Step::SecondToFirst,
+        Step::ThirdToSecond,
+        Step::ThirdToFirst,
+    ];
+}
+
+impl FacePoint {
+    ghost use Rattle.icosahedron.specs.Corners.{corner_number};
+    ghost use Rattle.lattice.specs.Appearances.{is_corner};
+    ghost use Rattle.lattice.specs.Shared.{corner_at, edge_at};
+    ghost use Rattle.lattice.specs.Naming.{point_of, place_of, step_from, step_number};
+    ghost use Rattle.lattice.specs.Inside.{is_inside};
+
+    pub fn new(frequency: Frequency, face: Face, a: usize, b: usize) -> FacePoint
+        requires { a + b ≤ frequency.n }
+        ensures frequency { result.frequency ≡ frequency }
+        ensures point { point_of result ≡ point_at face.index a b }
+    {
+        FacePoint {
+            frequency,
             face,
-            a: 0,
-            b: weight,
-        },
-        1 => FacePoint {
-            face,
-            a: n - weight,
-            b: 0,
-        },
-        _ => FacePoint {
-            face,
-            a: weight,
-            b: n - weight,
-        },
-    }
-}
-
-// The place of a point in the id table.
-pub fn place_of(n: usize, p: FacePoint) -> usize
-    requires fact_1 { n ≤ 80 }
-    requires fact_2 { p.face ≤ 20 }
-    requires fact_3 { p.a + p.b ≤ n }
-    ensures { result ≡ place_of n (point_of p) }
-{
-    p.face * slots_per_face(n) + tri_index(n, p.a, p.b)
-}
-
-// The point behind a point, in the order of the id table.
-pub fn point_after(n: usize, p: FacePoint) -> FacePoint
-    requires fact_1 { n ≤ 80 }
-    requires fact_2 { p.face < 20 }
-    requires fact_3 { p.a + p.b ≤ n }
-    ensures { point_of result ≡ point_after n (point_of p) }
-{
-    if p.a + p.b < n {
-        return FacePoint {
-            face: p.face,
-            a: p.a,
-            b: p.b + 1,
-        };
-    }
-    if p.a < n {
-        return FacePoint {
-            face: p.face,
-            a: p.a + 1,
-            b: 0,
-        };
-    }
-    FacePoint {
-        face: p.face + 1,
-        a: 0,
-        b: 0,
-    }
-}
-
-// The point that one of the six steps leads to; the point itself where the weight that falls is zero.
-pub fn step_from(n: usize, p: FacePoint, step: usize) -> FacePoint
-    requires fact_1 { n ≤ 80 }
-    requires fact_2 { p.a + p.b ≤ n }
-    ensures { point_of result ≡ step_from n (point_of p) step }
-{
-    if step < 2 {
-        if p.a == 0 {
-            return p;
+            a,
+            b,
         }
-        if step == 0 {
-            return FacePoint {
-                face: p.face,
-                a: p.a - 1,
-                b: p.b,
-            };
-        }
-        return FacePoint {
-            face: p.face,
-            a: p.a - 1,
-            b: p.b + 1,
-        };
     }
-    if step < 4 {
-        if p.b == 0 {
-            return p;
-        }
-        if step == 2 {
-            return FacePoint {
-                face: p.face,
-                a: p.a,
-                b: p.b - 1,
-            };
-        }
-        return FacePoint {
-            face: p.face,
-            a: p.a + 1,
-            b: p.b - 1,
-        };
-    }
-    if p.a + p.b == n {
-        return p;
-    }
-    if step == 4 {
-        return FacePoint {
-            face: p.face,
-            a: p.a,
-            b: p.b + 1,
-        };
-    }
-    FacePoint {
-        face: p.face,
-        a: p.a + 1,
-        b: p.b,
-    }
-}
 
-pub fn is_inside(n: usize, p: FacePoint) -> bool
-    requires { p.a + p.b ≤ n }
-    ensures { result ≡ is_inside n (point_of p) }
-{
-    (p.a > 0) & ((p.b > 0) & (p.a + p.b < n))
+    // The point with all weight on one corner.
+    pub fn on_corner(frequency: Frequency, face: Face, corner: Corner) -> FacePoint
+        ensures frequency { result.frequency ≡ frequency }
+        ensures point { point_of result ≡ corner_at frequency.n face.index (corner_number corner) }
+    {
+        match corner {
+            Corner::A => FacePoint::new(frequency, face, frequency.n, 0),
+            Corner::B => FacePoint::new(frequency, face, 0, frequency.n),
+            Corner::C => FacePoint::new(frequency, face, 0, 0),
+        }
+    }
+
+    // A point of the edge opposite to a corner, with its weight on the next corner.
+    pub fn on_edge(frequency: Frequency, face: Face, opposite: Corner, weight: usize) -> FacePoint
+        requires { weight ≤ frequency.n }
+        ensures frequency { result.frequency ≡ frequency }
+        ensures point { point_of result ≡ edge_at frequency.n face.index (corner_number opposite) weight }
+    {
+        match opposite {
+            Corner::A => FacePoint::new(frequency, face, 0, weight),
+            Corner::B => FacePoint::new(frequency, face, frequency.n - weight, 0),
+            Corner::C => FacePoint::new(frequency, face, weight, frequency.n - weight),
+        }
+    }
+
+    // The place of a point in the id table.
+    pub fn place(self) -> usize
+        ensures { result ≡ place_of self.frequency.n (point_of self) }
+    {
+        self.face.index * self.frequency.slots_per_face() + self.frequency.tri_index(self.a, self.b)
+    }
+
+    // Another point of the face.
+    fn moved(self, a: usize, b: usize) -> FacePoint
+        requires { a + b ≤ self.frequency.n }
+        ensures frequency { result.frequency ≡ self.frequency }
+        ensures point { point_of result ≡ point_at self.face.index a b }
+    {
+        FacePoint::new(self.frequency, self.face, a, b)
+    }
+
+    // The point that a step leads to; the point itself where the weight that falls is zero.
+    pub fn step(self, step: Step) -> FacePoint
+        ensures frequency { result.frequency ≡ self.frequency }
+        ensures point { point_of result ≡ step_from self.frequency.n (point_of self) (step_number step) }
+    {
+        let n = self.frequency.n;
+        match step {
+            Step::FirstToThird if self.a > 0 => self.moved(self.a - 1, self.b),
+            Step::FirstToSecond if self.a > 0 => self.moved(self.a - 1, self.b + 1),
+            Step::SecondToThird if self.b > 0 => self.moved(self.a, self.b - 1),
+            Step::SecondToFirst if self.b > 0 => self.moved(self.a + 1, self.b - 1),
+            Step::ThirdToSecond if self.a + self.b < n => self.moved(self.a, self.b + 1),
+            Step::ThirdToFirst if self.a + self.b < n => self.moved(self.a + 1, self.b),
+            _ => self,
+        }
+    }
+
+    #[tactic(auto, unfolding(crate::specs::Inside::is_inside))]
+    pub fn is_inside(self) -> bool
+        ensures { result ≡ is_inside self.frequency.n (point_of self) }
+    {
+        (self.a > 0) & ((self.b > 0) & (self.a + self.b < self.frequency.n))
+    }
+
+    // How many neighbours the vertex at a point has: five where one weight is n, and six elsewhere.
+    pub fn neighbour_count(self) -> u32
+        ensures { result ≡ (if is_corner self.frequency.n (point_of self) then 5 else 6) }
+    {
+        let n = self.frequency.n;
+        if (self.a == n) | ((self.b == n) | (self.a + self.b == 0)) {
+            5
+        } else {
+            6
+        }
+    }
 }

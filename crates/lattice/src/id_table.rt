@@ -1,50 +1,71 @@
 // The id table: the id of the vertex at each point.
 ghost use Rattle.std.specs.Prelude.{◌≡◌, ◌*◌, ◌≤◌, length};
 ghost use Rattle.sequences.specs.Tabulate.{overwrite};
-ghost use Rattle.icosahedron.specs.Slots.{IsFrequency, slots_per_face};
+ghost use Rattle.icosahedron.specs.Slots.{slots_per_face};
 ghost use Rattle.lattice.specs.Lattice.{id_of, id_table};
-ghost use Rattle.lattice.specs.Appearances.{OnLattice};
-ghost use Rattle.lattice.specs.Naming.{point_of};
 ghost use Rattle.lattice.specs.Lent.{HoldsIdTable};
 
-use crate::face_points::{FacePoint, place_of, point_after};
-use crate::shared_points::naming_of;
-use icosahedron::slots_per_face;
+use crate::face_points::{FacePoint, Step};
+use icosahedron::{Face, Frequency};
 
-// The id table: a point that is new has the next id, any other the id that its vertex was given before.
-pub fn fill_ids(n: usize, ids: &mut [u16])
-    requires fact_1 { IsFrequency n }
-    requires fact_2 { 20 * slots_per_face n ≤ length ids.old }
-    ensures { ids.new ≡ overwrite (id_table n) ids.old }
-{
-    let places = 20 * slots_per_face(n);
-    let mut p = FacePoint {
-        face: 0,
-        a: 0,
-        b: 0,
-    };
-    let mut place = 0;
-    let mut next: usize = 0;
-    while place < places {
-        let named = place_of(n, naming_of(n, p));
-        if named == place {
-            ids[place] = next as u16;
-            next += 1;
-        } else {
-            ids[place] = ids[named];
-        }
-        p = point_after(n, p);
-        place += 1;
+// A slice that begins with the id table of its lattice.
+#[derive(Clone, Copy, Debug)]
+pub struct IdTable<'a> {
+    pub frequency: Frequency,
+    pub ids: &'a [u16],
+    pub ghost filled: { HoldsIdTable frequency.n ids.now },
+}
+
+impl<'a> IdTable<'a> {
+    ghost use Rattle.lattice.specs.Naming.{point_of};
+    ghost use Rattle.lattice.specs.Inside.{step_ids};
+
+    // The id of the vertex at a point.
+    pub fn id(self, p: FacePoint) -> u16
+        requires { p.frequency.n ≡ self.frequency.n }
+        ensures { result ≡ id_of p.frequency.n (point_of p) }
+    {
+        self.ids[p.place()]
+    }
+
+    // The ids at the ends of a point's six steps, in the order of their places.
+    pub fn around(self, p: FacePoint) -> [u16; 6]
+        requires { p.frequency.n ≡ self.frequency.n }
+        ensures { result ≡ step_ids p.frequency.n (point_of p) }
+    {
+        [
+            self.id(p.step(Step::FirstToThird)),
+            self.id(p.step(Step::FirstToSecond)),
+            self.id(p.step(Step::SecondToThird)),
+            self.id(p.step(Step::ThirdToSecond)),
+            self.id(p.step(Step::SecondToFirst)),
+            self.id(p.step(Step::ThirdToFirst)),
+        ]
     }
 }
 
-// The id of the vertex at a point.
-pub fn id_at(n: usize, p: FacePoint, ids: &[u16]) -> u16
-    requires fact_1 { n ≤ 80 }
-    requires fact_2 { OnLattice n (point_of p) }
-    requires fact_3 { HoldsIdTable n ids.now }
-    ensures { result ≡ id_of n (point_of p) }
+// The id table: a point that is new has the next id, any other the id that its vertex was given before.
+pub fn fill_ids(frequency: Frequency, ids: &mut [u16])
+    requires { 20 * slots_per_face frequency.n ≤ length ids.old }
+    ensures { ids.new ≡ overwrite (id_table frequency.n) ids.old }
 {
-    let place = place_of(n, p);
-    ids[place]
+    let n = frequency.n;
+    // Counted beside the three loops: to work a point's place out each time would take products.
+    let mut place = 0;
+    let mut next: usize = 0;
+    for index in 0..20 {
+        let face = Face::new(index);
+        for a in 0..n + 1 {
+            for b in 0..n - a + 1 {
+                let named = FacePoint::new(frequency, face, a, b).naming().place();
+                if named == place {
+                    ids[place] = next as u16;
+                    next += 1;
+                } else {
+                    ids[place] = ids[named];
+                }
+                place += 1;
+            }
+        }
+    }
 }

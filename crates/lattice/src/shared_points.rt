@@ -1,90 +1,119 @@
 // Points that faces share: two tables of shared corners and edges, and the first appearance of a point's vertex.
-ghost use Rattle.std.specs.Prelude.{◌≡◌, ◌+◌, ◌<◌, ◌≤◌};
+ghost use Rattle.std.specs.Prelude.{◌≡◌, ◌+◌, ◌*◌, ◌≤◌};
+ghost use Rattle.icosahedron.specs.Corners.{corner_number};
 ghost use Rattle.lattice.specs.Shared.{first_corner, other_edge};
 ghost use Rattle.lattice.specs.Naming.{point_of, corner_naming, edge_naming, naming};
 
-use crate::face_points::{FacePoint, corner_at, edge_at};
+use crate::face_points::FacePoint;
+use icosahedron::Corner::{A, B, C};
+use icosahedron::{Corner, Face, Frequency};
 
-// For each corner of each face, 3 * face + place where the corner is first named.
-const FIRST_CORNERS: [u8; 60] = [
-    0, 1, 2, 0, 2, 5, 0, 5, 8, 0, 8, 11, 0, 11, 1, 15, 2, 1, 2, 15, 20, 20, 5, 2, 5, 20, 26, 26, 8,
-    5, 8, 26, 32, 32, 11, 8, 11, 32, 38, 38, 1, 11, 1, 38, 15, 45, 20, 15, 45, 26, 20, 45, 32, 26,
-    45, 38, 32, 45, 15, 38,
+// For each corner of each face, the face that has it first, and its place there.
+const FIRST_CORNERS: [[(u8, Corner); 3]; 20] = [
+    [(0, A), (0, B), (0, C)],
+    [(0, A), (0, C), (1, C)],
+    [(0, A), (1, C), (2, C)],
+    [(0, A), (2, C), (3, C)],
+    [(0, A), (3, C), (0, B)],
+    [(5, A), (0, C), (0, B)],
+    [(0, C), (5, A), (6, C)],
+    [(6, C), (1, C), (0, C)],
+    [(1, C), (6, C), (8, C)],
+    [(8, C), (2, C), (1, C)],
+    [(2, C), (8, C), (10, C)],
+    [(10, C), (3, C), (2, C)],
+    [(3, C), (10, C), (12, C)],
+    [(12, C), (0, B), (3, C)],
+    [(0, B), (12, C), (5, A)],
+    [(15, A), (6, C), (5, A)],
+    [(15, A), (8, C), (6, C)],
+    [(15, A), (10, C), (8, C)],
+    [(15, A), (12, C), (10, C)],
+    [(15, A), (5, A), (12, C)],
 ];
 
-// For each edge of each face, by the opposite place, 3 * face + place on the other face that has it.
-const OTHER_EDGES: [u8; 60] = [
-    15, 5, 13, 21, 8, 1, 27, 11, 4, 33, 14, 7, 39, 2, 10, 0, 43, 20, 45, 22, 17, 3, 19, 26, 48, 28,
-    23, 6, 25, 32, 51, 34, 29, 9, 31, 38, 54, 40, 35, 12, 37, 44, 57, 16, 41, 18, 59, 49, 24, 47,
-    52, 30, 50, 55, 36, 53, 58, 42, 56, 46,
+// For each edge of each face, by the opposite corner, the other face that has it, and the opposite corner there.
+const OTHER_EDGES: [[(u8, Corner); 3]; 20] = [
+    [(5, A), (1, C), (4, B)],
+    [(7, A), (2, C), (0, B)],
+    [(9, A), (3, C), (1, B)],
+    [(11, A), (4, C), (2, B)],
+    [(13, A), (0, C), (3, B)],
+    [(0, A), (14, B), (6, C)],
+    [(15, A), (7, B), (5, C)],
+    [(1, A), (6, B), (8, C)],
+    [(16, A), (9, B), (7, C)],
+    [(2, A), (8, B), (10, C)],
+    [(17, A), (11, B), (9, C)],
+    [(3, A), (10, B), (12, C)],
+    [(18, A), (13, B), (11, C)],
+    [(4, A), (12, B), (14, C)],
+    [(19, A), (5, B), (13, C)],
+    [(6, A), (19, C), (16, B)],
+    [(8, A), (15, C), (17, B)],
+    [(10, A), (16, C), (18, B)],
+    [(12, A), (17, C), (19, B)],
+    [(14, A), (18, C), (15, B)],
 ];
 
-fn first_corner(face: usize, place: usize) -> u8
-    requires fact_1 { face < 20 }
-    requires fact_2 { place < 3 }
-    ensures { result ≡ first_corner face place }
+// This and `other_edge` are two functions, since each promises what its own table holds.
+fn first_corner(face: Face, corner: Corner) -> (Face, Corner)
+    ensures { result.0.index * 3 + corner_number result.1 ≡ first_corner face.index (corner_number corner) }
 {
-    FIRST_CORNERS[face * 3 + place]
+    let (first, place) = FIRST_CORNERS[face.index][corner.place()];
+    (Face::new(first as usize), place)
 }
 
-fn other_edge(face: usize, place: usize) -> u8
-    requires fact_1 { face < 20 }
-    requires fact_2 { place < 3 }
-    ensures { result ≡ other_edge face place }
+fn other_edge(face: Face, opposite: Corner) -> (Face, Corner)
+    ensures { result.0.index * 3 + corner_number result.1 ≡ other_edge face.index (corner_number opposite) }
 {
-    OTHER_EDGES[face * 3 + place]
+    let (other, place) = OTHER_EDGES[face.index][opposite.place()];
+    (Face::new(other as usize), place)
 }
 
-// The corner at a place, on the face that has it first.
-fn corner_naming(n: usize, face: usize, place: usize) -> FacePoint
-    requires fact_1 { n ≤ 80 }
-    requires fact_2 { face < 20 }
-    requires fact_3 { place < 3 }
-    ensures { point_of result ≡ corner_naming n face place }
+// The corner, on the face that has it first.
+fn corner_naming(frequency: Frequency, face: Face, corner: Corner) -> FacePoint
+    ensures frequency { result.frequency ≡ frequency }
+    ensures point { point_of result ≡ corner_naming frequency.n face.index (corner_number corner) }
 {
-    let first = first_corner(face, place) as usize;
-    corner_at(n, first / 3, first % 3)
+    let (first, place) = first_corner(face, corner);
+    FacePoint::on_corner(frequency, first, place)
 }
 
 // The point of an edge, on the earlier of the two faces that have it.
-fn edge_naming(n: usize, face: usize, place: usize, weight: usize) -> FacePoint
-    requires fact_1 { weight ≤ n }
-    requires fact_2 { face < 20 }
-    requires fact_3 { place < 3 }
-    ensures { point_of result ≡ edge_naming n face place weight }
+fn edge_naming(frequency: Frequency, face: Face, opposite: Corner, weight: usize) -> FacePoint
+    requires { weight ≤ frequency.n }
+    ensures frequency { result.frequency ≡ frequency }
+    ensures point { point_of result ≡ edge_naming frequency.n face.index (corner_number opposite) weight }
 {
-    let other = other_edge(face, place) as usize;
-    if face < other / 3 {
-        edge_at(n, face, place, weight)
+    let (other, place) = other_edge(face, opposite);
+    if face.index < other.index {
+        FacePoint::on_edge(frequency, face, opposite, weight)
     } else {
-        edge_at(n, other / 3, other % 3, n - weight)
+        FacePoint::on_edge(frequency, other, place, frequency.n - weight)
     }
 }
 
-// The first appearance of a point's vertex.
-pub fn naming_of(n: usize, p: FacePoint) -> FacePoint
-    requires fact_1 { n ≤ 80 }
-    requires fact_2 { p.face < 20 }
-    requires fact_3 { p.a + p.b ≤ n }
-    ensures { point_of result ≡ naming n (point_of p) }
-{
-    if p.a == 0 {
-        if p.b == 0 {
-            return corner_naming(n, p.face, 2);
+impl FacePoint {
+    // The first appearance of a point's vertex.
+    pub fn naming(self) -> FacePoint
+        ensures frequency { result.frequency ≡ self.frequency }
+        ensures point { point_of result ≡ naming self.frequency.n (point_of self) }
+    {
+        let FacePoint {
+            frequency,
+            face,
+            a,
+            b,
+        } = self;
+        match (a == 0, b == 0, a + b == frequency.n) {
+            (true, true, _) => corner_naming(frequency, face, C),
+            (true, false, true) => corner_naming(frequency, face, B),
+            (true, false, false) => edge_naming(frequency, face, A, b),
+            (false, true, true) => corner_naming(frequency, face, A),
+            (false, true, false) => edge_naming(frequency, face, B, frequency.n - a),
+            (false, false, true) => edge_naming(frequency, face, C, a),
+            (false, false, false) => self,
         }
-        if p.a + p.b == n {
-            return corner_naming(n, p.face, 1);
-        }
-        return edge_naming(n, p.face, 0, p.b);
     }
-    if p.b == 0 {
-        if p.a + p.b == n {
-            return corner_naming(n, p.face, 0);
-        }
-        return edge_naming(n, p.face, 1, n - p.a);
-    }
-    if p.a + p.b == n {
-        return edge_naming(n, p.face, 2, p.a);
-    }
-    p
 }

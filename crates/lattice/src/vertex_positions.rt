@@ -1,55 +1,43 @@
 // The positions of the vertices, and the starts of their lists.
-ghost use Rattle.std.specs.Prelude.{◌≡◌, ◌+◌, ◌*◌, ◌<◌, ◌≤◌, length, if◌then◌else◌, slice_set};
+ghost use Rattle.std.specs.Prelude.{◌≡◌, ◌+◌, ◌*◌, ◌<◌, ◌≤◌, length, slice_set};
 ghost use Rattle.sequences.specs.Tabulate.{overwrite};
-ghost use Rattle.icosahedron.specs.Slots.{IsFrequency};
 ghost use Rattle.lattice.specs.Lattice.{point_position, lattice_mesh};
-ghost use Rattle.lattice.specs.Appearances.{is_corner};
 ghost use Rattle.lattice.specs.Naming.{point_of};
-ghost use Rattle.lattice.specs.Lent.{HoldsIdTable};
 ghost use Rattle.lattice.specs.Inside.{face_corners};
 
-use crate::face_points::{FacePoint, point_after};
-use icosahedron::{corner_point, slots_per_face};
+use crate::face_points::FacePoint;
+use crate::id_table::IdTable;
+use icosahedron::{Corner, Face};
 use std::num::nearest_u64_to_f64;
 use vector::Vector3;
 
-// The corners of a master face.
-#[derive(Clone, Copy)]
-struct FaceCorners {
-    first: Vector3,
-    second: Vector3,
-    third: Vector3,
-}
-
-fn face_corners(face: usize) -> FaceCorners
-    requires { face < 20 }
-    ensures { result ≡ face_corners face }
+// The points at the corners of a master face, in their order.
+#[tactic(auto, unfolding(crate::specs::Inside::face_corners))]
+fn face_corners(face: Face) -> [Vector3; 3]
+    ensures { result ≡ face_corners face.index }
 {
-    FaceCorners {
-        first: corner_point(face, 0),
-        second: corner_point(face, 1),
-        third: corner_point(face, 2),
-    }
+    [
+        face.corner_point(Corner::A),
+        face.corner_point(Corner::B),
+        face.corner_point(Corner::C),
+    ]
 }
 
-// ((typeof.a.P1 + typeof.b.P2) + typeof.c.P3)/n, normalised.
-fn position_of(n: usize, corners: FaceCorners, p: FacePoint) -> Vector3
-    requires fact_1 { corners ≡ face_corners p.face }
-    requires fact_2 { p.a + p.b ≤ n }
-    ensures { result ≡ point_position n (point_of p) }
+// ((a·P1 + b·P2) + c·P3)/n, normalised.
+fn position_of(corners: [Vector3; 3], p: FacePoint) -> Vector3
+    requires { corners ≡ face_corners p.face.index }
+    ensures { result ≡ point_position p.frequency.n (point_of p) }
 {
-    let first = corners.first;
-    let second = corners.second;
-    let third = corners.third;
-    first
-        .scale(nearest_u64_to_f64(p.a as u64))
-        .plus(second.scale(nearest_u64_to_f64(p.b as u64)))
-        .plus(third.scale(nearest_u64_to_f64((n - p.a - p.b) as u64)))
-        .divide(nearest_u64_to_f64(n as u64))
-        .normalize()
+    let n = p.frequency.n;
+    let [first, second, third] = corners;
+    let a = nearest_u64_to_f64(p.a as u64);
+    let b = nearest_u64_to_f64(p.b as u64);
+    let c = nearest_u64_to_f64((n - p.a - p.b) as u64);
+    let mean = (first * a + second * b + third * c) / nearest_u64_to_f64(n as u64);
+    mean.normalize()
 }
 
-// Three coordinates at a vertex.
+// Three coordinates at a vertex. A store for each field: for a copy, the three would first have to be put into an array.
 fn put_position(positions: &mut [f64], vertex: usize, position: Vector3)
     requires { vertex * 3 + 2 < length positions.old }
     ensures { positions.new ≡ slice_set (slice_set (slice_set positions.old (vertex * 3) position.x) (vertex * 3 + 1) position.y) (vertex * 3 + 2) position.z }
@@ -59,55 +47,34 @@ fn put_position(positions: &mut [f64], vertex: usize, position: Vector3)
     positions[vertex * 3 + 2] = position.z;
 }
 
-// How many neighbours the vertex at a point has: five where one weight is n, and six elsewhere.
-fn list_length(n: usize, p: FacePoint) -> u32
-    requires fact_1 { 1 ≤ n }
-    requires fact_2 { p.a + p.b ≤ n }
-    ensures { result ≡ (if is_corner n (point_of p) then 5 else 6) }
+// Positions and list starts: a point with the next id is the next vertex.
+pub fn fill_vertices(table: IdTable, positions: &mut [f64], starts: &mut [u32])
+    requires positions { length (lattice_mesh table.frequency.n).positions ≤ length positions.old }
+    requires starts { length (lattice_mesh table.frequency.n).starts ≤ length starts.old }
+    ensures positions { positions.new ≡ overwrite (lattice_mesh table.entry.frequency.n).positions positions.old }
+    ensures starts { starts.new ≡ overwrite (lattice_mesh table.entry.frequency.n).starts starts.old }
 {
-    if p.a == n {
-        return 5;
-    }
-    if p.b == n {
-        return 5;
-    }
-    if p.a + p.b == 0 {
-        return 5;
-    }
-    6
-}
-
-// Positions and list starts: a point with the next id is the next vertex. A face's corners are kept while its points go by.
-pub fn fill_vertices(n: usize, ids: &[u16], positions: &mut [f64], starts: &mut [u32])
-    requires fact_1 { IsFrequency n }
-    requires fact_2 { HoldsIdTable n ids.now }
-    requires fact_3 { length (lattice_mesh n).positions ≤ length positions.old }
-    requires fact_4 { length (lattice_mesh n).starts ≤ length starts.old }
-    ensures { (positions.new ≡ overwrite (lattice_mesh n).positions positions.old) × (starts.new ≡ overwrite (lattice_mesh n).starts starts.old) }
-{
-    let places = 20 * slots_per_face(n);
-    let mut p = FacePoint {
-        face: 0,
-        a: 0,
-        b: 0,
-    };
-    let mut corners = face_corners(0);
+    let frequency = table.frequency;
+    let n = frequency.n;
+    // Counted beside the three loops: to work a point's place out each time would take products.
     let mut place = 0;
     let mut vertex: usize = 0;
     let mut start: u32 = 0;
-    while place < places {
-        if p.a + p.b == 0 {
-            corners = face_corners(p.face);
+    for index in 0..20 {
+        let face = Face::new(index);
+        let corners = face_corners(face);
+        for a in 0..n + 1 {
+            for b in 0..n - a + 1 {
+                if table.ids[place] as usize == vertex {
+                    let p = FacePoint::new(frequency, face, a, b);
+                    put_position(positions, vertex, position_of(corners, p));
+                    starts[vertex] = start;
+                    start += p.neighbour_count();
+                    vertex += 1;
+                }
+                place += 1;
+            }
         }
-        let id = ids[place] as usize;
-        if id == vertex {
-            put_position(positions, vertex, position_of(n, corners, p));
-            starts[vertex] = start;
-            start += list_length(n, p);
-            vertex += 1;
-        }
-        p = point_after(n, p);
-        place += 1;
     }
     starts[vertex] = start;
 }

@@ -8,7 +8,6 @@ fn main(rt: HostRuntime) -> io::Result<()> {
     // A request is twelve bytes: a thirteenth shows that there are more.
     let mut input = [0u8; 13];
     let size = read_full(rt.stdin(), &mut input);
-    let mut output = [0u8; 16384];
-    let printed = bracket_list::lattice_list(&input[..size], &mut output);
-    rt.write_all(&output[..printed])
+    let lines = bracket_list::lattice_list(&input[..size]);
+    rt.write_all(lines.as_slice())
 }

@@ -9,10 +9,9 @@ use Rattle.vector.specs.declared.Weights.{Weights}
 use Rattle.vector.specs.Vector.{dot_product, cross_product, vector_difference, vector_multiple, normalized}
 use Rattle.vector.specs.Triangle.{weights}
 use Rattle.icosahedron.specs.Icosahedron.{corner_point}
-use Rattle.master_face.specs.declared.EdgePlanes.{EdgePlanes}
 use Rattle.master_face.specs.declared.Gram.{Gram}
 use Rattle.master_face.specs.declared.MasterFace.{MasterFace}
-use Rattle.master_face.specs.declared.Outside.{Outside}
+use Rattle.master_face.specs.declared.Three.{Three}
 
 -- `d00`, `d01`, `d11` and 1 / (d00·d11 − d01·d01)
 unfoldable pub gram_of : Vector3 → Vector3 → Gram
@@ -23,7 +22,7 @@ gram_of v0 v1 =
     record { d00 = d00; d01 = d01; d11 = d11; inv_denom = div binary64 one (sub binary64 (mul binary64 d00 d11) (mul binary64 d01 d01)) }
 
 -- the normals of the side planes through the origin and two corners
-unfoldable pub edge_planes_of : Vector3 → Vector3 → Vector3 → EdgePlanes
+unfoldable pub edge_planes_of : Vector3 → Vector3 → Vector3 → Three Vector3
 edge_planes_of p1 p2 p3 = record { first = cross_product p1 p2; second = cross_product p2 p3; third = cross_product p3 p1 }
 
 -- Document 01, "Analytic location": "A master face keeps corners, normal, offset, side planes and Gram numbers, as `MasterFace::new` works them out."
@@ -33,7 +32,7 @@ master_face p1 p2 p3 =
     let v1 = vector_difference p3 p1 in
     let normal = normalized (cross_product v0 v1) in
     record {
-      corners = record { p1 = p1; p2 = p2; p3 = p3 };
+      corners = record { first = p1; second = p2; third = p3 };
       normal = normal;
       plane_offset = dot_product normal p1;
       edge_planes = edge_planes_of p1 p2 p3;
@@ -53,7 +52,7 @@ radial_projection face p = vector_multiple p (div binary64 face.plane_offset (do
 -- `barycentric` of the source: α, β and γ of a projected point
 unfoldable pub face_weights : MasterFace → Vector3 → Weights
 face_weights face pp =
-    let v2 = vector_difference pp face.corners.p1 in
+    let v2 = vector_difference pp face.corners.first in
     let d20 = dot_product v2 face.v0 in
     let d21 = dot_product v2 face.v1 in
     let g = face.gram in
@@ -70,7 +69,7 @@ abbrev pub negative_eps : Float
 negative_eps = neg (of_bits binary64 0x3d719799812dea11)
 
 -- beyond which side planes of a face p lies
-unfoldable pub outside_of : MasterFace → Vector3 → Outside
+unfoldable pub outside_of : MasterFace → Vector3 → Three Bool
 outside_of face p = record {
   first = below_plane p face.edge_planes.first negative_eps;
   second = below_plane p face.edge_planes.second negative_eps;

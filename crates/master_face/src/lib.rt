@@ -8,19 +8,13 @@ pub mod faces;
 
 use vector::{Vector3, Weights};
 
-#[derive(Clone, Copy)]
-pub struct Corners {
-    pub p1: Vector3,
-    pub p2: Vector3,
-    pub p3: Vector3,
-}
-
-// The normals of the side planes through the origin and two corners.
-#[derive(Clone, Copy)]
-pub struct EdgePlanes {
-    pub first: Vector3,
-    pub second: Vector3,
-    pub third: Vector3,
+// What belongs to the three corners of a face, or to its three sides, in their order.
+// Named fields and no array: document 01 has a master face as nested structs.
+#[derive(Clone, Copy, Debug)]
+pub struct Three<T> {
+    pub first: T,
+    pub second: T,
+    pub third: T,
 }
 
 // The edges' dots with each other, and 1 / (d00 d11 - d01 d01).
@@ -34,24 +28,18 @@ pub struct Gram {
 
 #[derive(Clone, Copy)]
 pub struct MasterFace {
-    pub corners: Corners,
+    pub corners: Three<Vector3>,
     pub normal: Vector3,
     pub plane_offset: f64,
-    pub edge_planes: EdgePlanes,
+    // The normals of the side planes through the origin and two corners.
+    pub edge_planes: Three<Vector3>,
     pub v0: Vector3,
     pub v1: Vector3,
     pub gram: Gram,
 }
 
-// Beyond which side planes of a face a point lies.
-#[derive(Clone, Copy)]
-pub struct Outside {
-    pub first: bool,
-    pub second: bool,
-    pub third: bool,
-}
-
 impl Gram {
+    #[tactic(auto, unfolding(crate::specs::MasterFace::gram_of))]
     pub fn new(v0: Vector3, v1: Vector3) -> Self
         ensures { result ≡ gram_of v0 v1 }
     {
@@ -67,58 +55,59 @@ impl Gram {
     }
 }
 
-impl EdgePlanes {
-    pub fn new(corners: Corners) -> Self
-        ensures { result ≡ edge_planes_of corners.p1 corners.p2 corners.p3 }
+impl Three<Vector3> {
+    // The normals of the side planes through the origin and two corners.
+    #[tactic(auto, unfolding(crate::specs::MasterFace::edge_planes_of))]
+    pub fn edge_planes(self) -> Self
+        ensures { result ≡ edge_planes_of self.first self.second self.third }
     {
-        let first = corners.p1.cross(corners.p2);
-        let second = corners.p2.cross(corners.p3);
-        let third = corners.p3.cross(corners.p1);
         Self {
-            first,
-            second,
-            third,
+            first: self.first.cross(self.second),
+            second: self.second.cross(self.third),
+            third: self.third.cross(self.first),
         }
     }
 }
 
 impl MasterFace {
+    #[tactic(auto, unfolding(crate::specs::MasterFace::master_face))]
     pub fn new(p1: Vector3, p2: Vector3, p3: Vector3) -> Self
         ensures { result ≡ master_face p1 p2 p3 }
     {
-        let v0 = p2.minus(p1);
-        let v1 = p3.minus(p1);
+        let corners = Three {
+            first: p1,
+            second: p2,
+            third: p3,
+        };
+        let v0 = p2 - p1;
+        let v1 = p3 - p1;
         let normal = v0.cross(v1).normalize();
-        let plane_offset = normal.dot(p1);
-        let corners = Corners { p1, p2, p3 };
-        let edge_planes = EdgePlanes::new(corners);
-        let gram = Gram::new(v0, v1);
         Self {
             corners,
             normal,
-            plane_offset,
-            edge_planes,
+            plane_offset: normal.dot(p1),
+            edge_planes: corners.edge_planes(),
             v0,
             v1,
-            gram,
+            gram: Gram::new(v0, v1),
         }
     }
 
     // The point's radial projection onto the face's plane.
+    #[tactic(auto, unfolding(crate::specs::MasterFace::radial_projection))]
     pub fn projection(self, p: Vector3) -> Vector3
         ensures { result ≡ radial_projection self p }
     {
-        let normal = self.normal;
-        p.scale(self.plane_offset / p.dot(normal))
+        p * (self.plane_offset / p.dot(self.normal))
     }
 
     // The weights of the corners at a projected point.
+    #[tactic(auto, unfolding(crate::specs::MasterFace::face_weights))]
     pub fn barycentric(self, pp: Vector3) -> Weights
         ensures { result ≡ face_weights self pp }
     {
-        let corners = self.corners;
         let gram = self.gram;
-        let v2 = pp.minus(corners.p1);
+        let v2 = pp - self.corners.first;
         let d20 = v2.dot(self.v0);
         let d21 = v2.dot(self.v1);
         let beta = (gram.d11 * d20 - gram.d01 * d21) * gram.inv_denom;
@@ -127,11 +116,12 @@ impl MasterFace {
     }
 
     // Beyond which side planes the point lies.
-    pub fn outside(self, p: Vector3) -> Outside
+    #[tactic(auto, unfolding(crate::specs::MasterFace::outside_of))]
+    pub fn outside(self, p: Vector3) -> Three<bool>
         ensures { result ≡ outside_of self p }
     {
         let planes = self.edge_planes;
-        Outside {
+        Three {
             first: p.dot(planes.first) < -1e-12,
             second: p.dot(planes.second) < -1e-12,
             third: p.dot(planes.third) < -1e-12,

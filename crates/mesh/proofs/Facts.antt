@@ -11,12 +11,13 @@ use borrow.Author.Tests.{leb-true, eqb-true, lt-ltb, le-leb, eq-eqb}
 use Rattle.booleans.proofs.Booleans.{and_split, and_intro}
 use Rattle.sequences.specs.Starts.{CompressedRows}
 use Rattle.sequences.proofs.Range.{all_below_at, all_below_intro}
-use Rattle.refusal.specs.declared.Verdict.TheVariants.{Passed}
-use Rattle.refusal.specs.Refusal.{refusal, refusal_at}
+use Rattle.std.specs.Prelude.{Ok}
+use Rattle.refusal.specs.declared.Refusal.TheVariants.{Count, Starts, Id, Position, StartsSpan}
 use Rattle.refusal.proofs.Rows.{row_passed, then_passed}
 use Rattle.vector.specs.Direction.{admissible}
 use Rattle.mesh.specs.Mesh.{Mesh, vertex_count, count, position_of}
-use Rattle.mesh.specs.Rows.{greatest_count, longest_list, positions_fit, starts_counted, starts_span, starts_ascend, first_fall, lists_limited, ids_below, list_rows, positions_admissible, adjacency_rows, mesh_rows}
+use Rattle.mesh.specs.Rows.{greatest_count, longest_list, positions_fit, starts_counted, starts_span, starts_ascend, lists_limited, ids_below, list_rows, positions_admissible, adjacency_rows, mesh_rows}
+use Rattle.mesh.proofs.Falls.{fall_row_passed, no_fall}
 use Rattle.mesh.proofs.IdsBelow.{ids_below_at}
 
 -- rows 3 and 4, of the lists of n vertices
@@ -40,14 +41,14 @@ pub record MeshFacts (m : Mesh) : Type 0 where
   pub admissible_positions : (v : ℕ) → v < count m → admissible (position_of m.positions v) ≡ true
 
 module _ (n : ℕ) (starts entries : List ℕ) where
-  pub list_facts : list_rows n starts entries ≡ Passed → ListFacts n starts entries
+  pub list_facts : list_rows n starts entries ≡ Ok tt → ListFacts n starts entries
   unfolding list_rows starts_counted starts_span starts_ascend lists_limited
   list_facts h =
-      let counted = row_passed (starts_counted n starts) (refusal 3) _ h in
-      let span = row_passed (starts_span n starts entries) (refusal 17) _ counted.1 in
-      let ascend = row_passed (starts_ascend n starts) (refusal_at 18 (first_fall starts)) _ span.1 in
-      let limit = row_passed (lists_limited n starts) (refusal 3) _ ascend.1 in
-      let ids = row_passed (ids_below n entries) (refusal 4) _ limit.1 in
+      let counted = row_passed (starts_counted n starts) Starts _ h in
+      let span = row_passed (starts_span n starts entries) StartsSpan _ counted.1 in
+      let ascend = fall_row_passed n starts _ (eqb-true _ _ counted.0) span.1 in
+      let limit = row_passed (lists_limited n starts) Starts _ ascend.1 in
+      let ids = row_passed (ids_below n entries) Id _ limit.1 in
       let ends = and_split (eqb (get_or starts 0 0) 0) _ span.0 in
       record {
         rows = record {
@@ -81,9 +82,9 @@ module _ (n : ℕ) (starts entries : List ℕ) where
     unfolding ids_below
     ids_below_lem = all_below_intro _ _ (λ i lt. lt-ltb _ _ (facts.ids_below_lem i lt))
 
-    pub list_passed : list_rows n starts entries ≡ Passed
+    pub list_passed : list_rows n starts entries ≡ Ok tt
     unfolding list_rows
-    list_passed = rw (starts_counted_lem, starts_span_lem, starts_ascend_lem, lists_limited_lem, ids_below_lem) refl
+    list_passed = rw (starts_counted_lem, starts_span_lem, no_fall n starts facts.rows.size starts_ascend_lem, lists_limited_lem, ids_below_lem) refl
 
 -- row 2
 pub positions_facts : (positions : List Float) → positions_fit positions ≡ true → (length positions ≡ vertex_count positions * 3) × (1 ≤ vertex_count positions) × (vertex_count positions ≤ greatest_count)
@@ -94,10 +95,13 @@ positions_facts positions h =
     let rest : length positions % 3 ≡ 0 = eqb-true _ _ whole.0 in
     (omega arith, leb-true _ _ range.0, leb-true _ _ range.1)
 
-pub adjacency_facts : (m : Mesh) → adjacency_rows m ≡ Passed → AdjacencyFacts m
+pub positions_few : (positions : List Float) → positions_fit positions ≡ true → vertex_count positions ≤ greatest_count
+positions_few positions h = (positions_facts positions h).2
+
+pub adjacency_facts : (m : Mesh) → adjacency_rows m ≡ Ok tt → AdjacencyFacts m
 unfolding adjacency_rows
 adjacency_facts m h =
-    let fit = row_passed (positions_fit m.positions) (refusal 2) _ h in
+    let fit = row_passed (positions_fit m.positions) Count _ h in
     let positions = positions_facts m.positions fit.0 in
     let lists = list_facts (count m) m.starts m.entries fit.1 in
     record {
@@ -109,11 +113,11 @@ adjacency_facts m h =
       ids_below_lem = lists.ids_below_lem;
     }
 
-pub mesh_facts : (m : Mesh) → mesh_rows m ≡ Passed → MeshFacts m
+pub mesh_facts : (m : Mesh) → mesh_rows m ≡ Ok tt → MeshFacts m
 unfolding mesh_rows positions_admissible
 mesh_facts m h =
     let both = then_passed (adjacency_rows m) _ h in
-    let admitted = row_passed (positions_admissible m.positions) (refusal 5) _ both.1 in
+    let admitted = row_passed (positions_admissible m.positions) Position _ both.1 in
     record {
       adjacency = adjacency_facts m both.0;
       admissible_positions = λ v lt. all_below_at _ _ v admitted.0 lt;
@@ -126,12 +130,12 @@ module _ (m : Mesh) (facts : AdjacencyFacts m) where
       let rest : length m.positions % 3 ≡ 0 = omega (arith, facts.three_each) in
       and_intro _ _ (eq-eqb _ _ rest) (and_intro _ _ (le-leb _ _ facts.some) (le-leb _ _ facts.few))
 
-  pub adjacency_passed : adjacency_rows m ≡ Passed
+  pub adjacency_passed : adjacency_rows m ≡ Ok tt
   unfolding adjacency_rows
   adjacency_passed =
       let lists : ListFacts (count m) m.starts m.entries = record { rows = facts.rows; limited = facts.limited; ids_below_lem = facts.ids_below_lem } in
       rw (positions_fit_lem, list_passed (count m) m.starts m.entries lists) refl
 
-pub mesh_passed : (m : Mesh) → MeshFacts m → mesh_rows m ≡ Passed
+pub mesh_passed : (m : Mesh) → MeshFacts m → mesh_rows m ≡ Ok tt
 unfolding mesh_rows positions_admissible
 mesh_passed m facts = rw (adjacency_passed m facts.adjacency, all_below_intro (λ v. admissible (position_of m.positions v)) (count m) facts.admissible_positions) refl

@@ -1,16 +1,20 @@
--- The first start that falls: `fall_first`, `fall_none`, and how a search finds it. Assumes nothing.
-use Prim.Native.Nat.{ℕ, suc, ◌-◌, ◌≤◌, ◌<◌}
+-- The first start that falls: `fall_first`, `fall_none`, and the row that names it. Assumes nothing.
+use Prim.Native.Nat.{ℕ, zero, suc, ◌-◌, ◌≤◌, ◌<◌}
 use native.Mathlib.Omega.{arith}
+use native.Mathlib.Numerals.{unary_clauses}
 use mathlib.Core.Path.{◌≡◌, refl, sym, ap, ◌∙◌}
-use mathlib.Core.Logic.{◌≢◌, ◌⊎◌, inl, inr}
 use mathlib.Core.Bool.{Bool, true, false}
 use mathlib.Core.List.{List}
 use lib.ListN.{length, get_or}
-use borrow.Author.Tests.{leb-true, leb-false}
-use Rattle.booleans.proofs.Booleans.{true_or_false}
+use borrow.Author.Tests.{leb-true, leb-false, le-leb, lt-leb}
 use Rattle.sequences.specs.Range.{all_below, first_failing}
-use Rattle.sequences.proofs.Range.{all_below_at, all_below_fails, first_failing_at, first_failing_lem}
-use Rattle.mesh.specs.Rows.{not_falling, first_fall, starts_ascend}
+use Rattle.std.specs.Option.{MatchOption}
+use Rattle.sequences.proofs.Range.{all_below_at, all_below_intro, all_below_fails, first_failing_at, first_failing_lem}
+use Rattle.std.specs.Prelude.{Option, Some, None, Ok}
+use Rattle.refusal.specs.declared.Refusal.TheVariants.{StartsFall}
+use Rattle.refusal.specs.Refusal.{Verdict}
+use Rattle.refusal.proofs.Rows.{refused_not_passed}
+use Rattle.mesh.specs.Rows.{not_falling, falling_start, fall_row, starts_ascend}
 
 -- "the index of the first start below the one before it"
 pub record FirstFall (starts : List ℕ) (index : ℕ) : Type 0 where
@@ -25,48 +29,48 @@ module _ (starts : List ℕ) where
   pairs = length starts - 1
 
   -- ---- a search that has passed the starts up to i
-  pub nowhere_falls : all_below (not_falling starts) pairs ≡ true → first_fall starts ≡ 0
-  unfolding first_fall
+  pub nowhere_falls : all_below (not_falling starts) pairs ≡ true → falling_start starts ≡ None
+  unfolding falling_start
   nowhere_falls h = rw h refl
 
-  pub falls_behind : (i : ℕ) → suc i < length starts → all_below (not_falling starts) i ≡ true → not_falling starts i ≡ false → first_fall starts ≡ suc i
-  unfolding first_fall
+  pub falls_behind : (i : ℕ) → suc i < length starts → all_below (not_falling starts) i ≡ true → not_falling starts i ≡ false → falling_start starts ≡ Some (suc i)
+  unfolding falling_start
   falls_behind i lt all fails =
       let below : i < pairs = omega arith in
       rw (all_below_fails (not_falling starts) pairs i below fails, first_failing_at (not_falling starts) pairs i below all fails) refl
 
   -- ---- what the index tells
-  all_ascend : first_fall starts ≡ 0 → all_below (not_falling starts) pairs ≡ true
-  unfolding first_fall
+  all_ascend : falling_start starts ≡ None → all_below (not_falling starts) pairs ≡ true
+  unfolding falling_start
   all_ascend h = go (all_below (not_falling starts) pairs) refl
     where
       go : (b : Bool) → all_below (not_falling starts) pairs ≡ b → b ≡ true
       go true e = refl
-      go false e = absurd (let z : suc (first_failing (not_falling starts) pairs) ≡ 0 = (rw e at h) in let y : ⊥ = omega arith in y)
+      go false e = absurd (let z : Some (suc (first_failing (not_falling starts) pairs)) ≡ None = (rw e at h) in let y : ⊥ = cc in y)
 
-  not_all_ascend : first_fall starts ≢ 0 → all_below (not_falling starts) pairs ≡ false
-  not_all_ascend h = go (true_or_false (all_below (not_falling starts) pairs))
+  not_all_ascend : (index : ℕ) → falling_start starts ≡ Some index → (all_below (not_falling starts) pairs ≡ false) × (index ≡ suc (first_failing (not_falling starts) pairs))
+  unfolding falling_start
+  not_all_ascend index h = go (all_below (not_falling starts) pairs) refl
     where
-      go : (all_below (not_falling starts) pairs ≡ true) ⊎ (all_below (not_falling starts) pairs ≡ false) → all_below (not_falling starts) pairs ≡ false
-      go (inl e) = absurd (h (nowhere_falls e))
-      go (inr e) = e
+      go : (b : Bool) → all_below (not_falling starts) pairs ≡ b → (b ≡ false) × (index ≡ suc (first_failing (not_falling starts) pairs))
+      go true e = absurd (let z : None ≡ Some index = (rw e at h) in let y : ⊥ = cc in y)
+      go false e = (refl, let z : Some (suc (first_failing (not_falling starts) pairs)) ≡ Some index = (rw e at h) in cc)
 
   -- the start at i, and the one before it, as a pair of neighbours
   pub pair_of : (i : ℕ) → 1 ≤ i → get_or starts (suc (i - 1)) 0 ≡ get_or starts i 0
   pair_of i h = ap (λ (k : ℕ). get_or starts k 0) (let e : suc (i - 1) ≡ i = omega arith in e)
 
-  pub fall_none : first_fall starts ≡ 0 → (i : ℕ) → 1 ≤ i → i < length starts → get_or starts (i - 1) 0 ≤ get_or starts i 0
+  pub fall_none : falling_start starts ≡ None → (i : ℕ) → 1 ≤ i → i < length starts → get_or starts (i - 1) 0 ≤ get_or starts i 0
   fall_none h i some lt =
       let ascends = leb-true (get_or starts (i - 1) 0) (get_or starts (suc (i - 1)) 0) (all_below_at (not_falling starts) pairs (i - 1) (all_ascend h) (omega arith)) in
       omega (arith, pair_of i some)
 
-  pub fall_first : first_fall starts ≢ 0 → FirstFall starts (first_fall starts)
-  unfolding first_fall
-  fall_first h =
-      let fails = not_all_ascend h in
-      let first = first_failing_lem (not_falling starts) pairs fails in
+  pub fall_first : (index : ℕ) → falling_start starts ≡ Some index → FirstFall starts index
+  fall_first index h =
       let k = first_failing (not_falling starts) pairs in
-      rw fails (record {
+      let told = not_all_ascend index h in
+      let first = first_failing_lem (not_falling starts) pairs told.0 in
+      rw told.1 (record {
         behind_another = omega arith;
         inside = omega (arith, first.0);
         falls =
@@ -78,18 +82,38 @@ module _ (starts : List ℕ) where
             omega (arith, pair_of i some);
       })
 
--- ---- row 18's test and its index, where the starts have their length
+-- what a search for the first fall finds
+pub fall_found : (starts : List ℕ) (r : Option ℕ)
+    → MatchOption r ((i : ℕ) → 1 ≤ i → i < length starts → get_or starts (i - 1) 0 ≤ get_or starts i 0)
+    (λ index. (1 ≤ index) × (index < length starts) × (get_or starts index 0 < get_or starts (index - 1) 0) × ((i : ℕ) → 1 ≤ i → i < index → get_or starts (i - 1) 0 ≤ get_or starts i 0))
+    → r ≡ falling_start starts
+fall_found starts None none = sym (nowhere_falls starts (all_below_intro (not_falling starts) (length starts - 1) (λ v lt. le-leb _ _ (simp unary_clauses at (none (suc v) (omega arith) (omega arith))))))
+fall_found starts (Some zero) found = absurd (let e = found.0 in let z : ⊥ = omega arith in z)
+fall_found starts (Some (suc i)) found =
+    let falls : get_or starts (suc i) 0 < get_or starts i 0 = simp unary_clauses at found.2 in
+    sym (falls_behind starts i found.1 (all_below_intro (not_falling starts) i (λ v lt. le-leb _ _ (simp unary_clauses at (found.3 (suc v) (omega arith) (omega arith))))) (lt-leb _ _ falls))
+
+-- ---- row 18 and its index, where the starts have their length
 module _ (n : ℕ) (starts : List ℕ) (size : length starts ≡ suc n) where
   same_pairs : length starts - 1 ≡ n
   same_pairs = omega arith
 
-  pub ascend_no_fall : first_fall starts ≡ 0 → starts_ascend n starts ≡ true
+  pub ascend_no_fall : falling_start starts ≡ None → starts_ascend n starts ≡ true
   unfolding starts_ascend
   ascend_no_fall h = ap (all_below (not_falling starts)) (sym same_pairs) ∙ all_ascend starts h
 
-  pub ascend_fall : first_fall starts ≢ 0 → starts_ascend n starts ≡ false
+  pub ascend_fall : (index : ℕ) → falling_start starts ≡ Some index → starts_ascend n starts ≡ false
   unfolding starts_ascend
-  ascend_fall h = ap (all_below (not_falling starts)) (sym same_pairs) ∙ not_all_ascend starts h
+  ascend_fall index h = ap (all_below (not_falling starts)) (sym same_pairs) ∙ (not_all_ascend starts index h).0
 
-  pub fall_not_ascend : starts_ascend n starts ≡ false → first_fall starts ≢ 0
-  fall_not_ascend h e = let z : true ≡ false = sym (ascend_no_fall e) ∙ h in let y : ◌≡◌ {A = ℕ} 0 1 = cc in omega arith
+  pub no_fall : starts_ascend n starts ≡ true → falling_start starts ≡ None
+  unfolding starts_ascend
+  no_fall h = nowhere_falls starts (ap (all_below (not_falling starts)) same_pairs ∙ h)
+
+-- the row passes exactly where the starts ascend
+pub fall_row_passed : (n : ℕ) (starts : List ℕ) (next : Verdict) → length starts ≡ suc n → fall_row (falling_start starts) next ≡ Ok tt → (starts_ascend n starts ≡ true) × (next ≡ Ok tt)
+fall_row_passed n starts next size h = go (falling_start starts) refl
+  where
+    go : (fall : Option ℕ) → falling_start starts ≡ fall → (starts_ascend n starts ≡ true) × (next ≡ Ok tt)
+    go None e = (ascend_no_fall n starts size e, let z : next ≡ Ok tt = (rw e at h) in z)
+    go (Some index) e = absurd (refused_not_passed (StartsFall index) (rw e at h))

@@ -1,5 +1,6 @@
 pub mod IdsBelow
 pub mod Facts
+pub mod Made
 pub mod Neighbours
 pub mod Renumbered
 pub mod Falls

@@ -1,20 +1,26 @@
 -- Laws of ascending lists and of the mark: `lists_ascend_lem`, `ascending_lists`; `reading_exact` says what an accepted reading call found, `reading_index` what a refused one tells, `reading_same` that neither depends on the mark before;
 -- `mark_truthful` is the law by which each call that is lent a mark keeps it truthful, `reading_truthful` the reading call's. Assumes nothing.
-use Prim.Native.Nat.{ℕ, suc, ◌-◌, ◌≤◌, ◌<◌}
+use Prim.Native.Nat.{ℕ, suc, ◌+◌, ◌-◌, ◌≤◌, ◌<◌}
 use native.Mathlib.Omega.{arith}
+use native.Mathlib.Numerals.{add-one}
 use mathlib.Core.Path.{◌≡◌, refl, sym, ◌∙◌}
 use mathlib.Core.Logic.{◌↔◌}
-use mathlib.Core.Bool.{Bool, true}
+use mathlib.Core.Bool.{Bool, true, false}
 use mathlib.Core.List.{List}
 use lib.ListN.{length, get_or}
-use borrow.Author.Tests.{leb-true, le-leb}
+use borrow.Author.Tests.{leb-true, le-leb, lt-leb}
+use Rattle.std.specs.Bool.{MatchBool}
+use Rattle.std.specs.List.{IsAllAdjacentAnswer}
+use Rattle.std.specs.List.Sorted.{IsNonDecreasing}
+use Rattle.std.specs.Ordering.{is_some_and, is_le, nat_cmp}
+use Rattle.std.proofs.lemmas.List.Sorted.{non_decreasing_from_is_sorted}
+use Rattle.sequences.specs.Range.{all_below}
 use Rattle.sequences.specs.Ascending.{Nondecreasing}
-use Rattle.sequences.proofs.Range.{all_below_at, all_below_intro}
+use Rattle.sequences.proofs.Range.{all_below_at, all_below_intro, all_below_fails}
 use Rattle.sequences.proofs.Ascending.{pairwise_at, pairwise_adjacent}
 use Rattle.refusal.specs.declared.Refusal.{Refusal}
-use Rattle.refusal.specs.declared.Verdict.{Verdict}
-use Rattle.refusal.specs.declared.Verdict.TheVariants.{Passed, Refused}
-use Rattle.refusal.specs.Refusal.{answer}
+use Rattle.std.specs.Prelude.{Some, Ok, Err}
+use Rattle.refusal.specs.Refusal.{Verdict, answer}
 use Rattle.refusal.proofs.Rows.{refused_not_passed, answer_refused, answers_relate}
 use Rattle.mesh.specs.Mesh.{Mesh, count, neighbours}
 use Rattle.mesh.specs.Rows.{not_falling, adjacency_rows}
@@ -41,38 +47,47 @@ pub ascending_lists : (m : Mesh) → lists_ascend m ≡ true → (v : ℕ) → v
 unfolding lists_ascend
 ascending_lists m h v lt = ascending_list (neighbours m v) (all_below_at (λ v. list_ascends (neighbours m v)) (count m) v h lt)
 
+-- what `is_sorted` answers of a list
+pub list_sorted : (list : List ℕ) (r : Bool) → IsAllAdjacentAnswer (λ x y b. is_some_and is_le (Some (nat_cmp x y)) ≡ b) list r → r ≡ list_ascends list
+unfolding list_ascends
+list_sorted list r h = go r (non_decreasing_from_is_sorted list r h)
+  where
+    go : (r : Bool) → MatchBool r (IsNonDecreasing list) ((k : ℕ) × (k + 1 < length list) × ((d : ℕ) → get_or list (k + 1) d < get_or list k d)) → r ≡ all_below (not_falling list) (length list - 1)
+    go true ascends = sym (all_below_intro (not_falling list) (length list - 1) (λ v lt. le-leb _ _ (ascends v (suc v) 0 (omega arith) (omega arith))))
+    go false falls = sym (all_below_fails (not_falling list) (length list - 1) falls.0 (omega (arith, falls.1)) (lt-leb _ _ (rw add-one at (falls.2 0))))
+
 -- ---- the reading call
-reading_mark : (m : Mesh) (mark : Bool) → adjacency_rows m ≡ Passed → (mark_ascending m mark).mark ≡ lists_ascend m
+reading_mark : (m : Mesh) (mark : Bool) → adjacency_rows m ≡ Ok tt → (mark_ascending m mark).mark ≡ lists_ascend m
 unfolding mark_ascending
 reading_mark m mark rows = rw rows refl
 
 -- "sets the mark exactly when all its lists ascend, and else clears it"
-pub reading_exact : (m : Mesh) (mark : Bool) → adjacency_rows m ≡ Passed → ((mark_ascending m mark).mark ≡ true) ↔ ((v : ℕ) → v < count m → Nondecreasing (neighbours m v))
+pub reading_exact : (m : Mesh) (mark : Bool) → adjacency_rows m ≡ Ok tt → ((mark_ascending m mark).mark ≡ true) ↔ ((v : ℕ) → v < count m → Nondecreasing (neighbours m v))
 reading_exact m mark rows =
     let found = reading_mark m mark rows in
     (λ marked. ascending_lists m (rw found at marked), λ ascend. found ∙ lists_ascend_lem m ascend)
 
 -- 18 carries the index of the first start that falls, every other refusal 0.
-pub reading_index : (m : Mesh) (mark : Bool) (reason : Refusal) → (mark_ascending m mark).answered ≡ Refused reason → IndexTold m.starts reason
+pub reading_index : (m : Mesh) (mark : Bool) (reason : Refusal) → (mark_ascending m mark).answered ≡ Err reason → IndexTold m.starts reason
 unfolding mark_ascending
 reading_index m mark reason h =
     adjacency_index m reason
-    (answer_refused (λ (o : MarkOutcome). o.answered ≡ Refused reason) (adjacency_rows m) _ _ reason (λ e. refused_not_passed reason (sym e)) (λ other e. cc) h)
+    (answer_refused (λ (o : MarkOutcome). o.answered ≡ Err reason) (adjacency_rows m) _ _ reason (λ e. refused_not_passed reason (sym e)) (λ other e. cc) h)
 
 -- The mark before changes nothing but the mark after a refusal.
-pub reading_same : (m : Mesh) (mark other : Bool) → ((mark_ascending m mark).answered ≡ (mark_ascending m other).answered) × (adjacency_rows m ≡ Passed → mark_ascending m mark ≡ mark_ascending m other)
+pub reading_same : (m : Mesh) (mark other : Bool) → ((mark_ascending m mark).answered ≡ (mark_ascending m other).answered) × (adjacency_rows m ≡ Ok tt → mark_ascending m mark ≡ mark_ascending m other)
 unfolding mark_ascending
 reading_same m mark other =
     (answers_relate (λ (o₁ o₂ : MarkOutcome). o₁.answered ≡ o₂.answered) (adjacency_rows m) _ _ _ _ (λ reason. refl) refl, λ rows. rw rows refl)
 
 -- ---- no call that is lent a mark sets it falsely: `mesh_in` and `mark_in` read an outcome. A refused call leaves mesh and mark; an accepted one leaves a mesh with which its mark is truthful.
 pub mark_truthful : {A : Type 0} (mesh_in : A → Mesh) (mark_in : A → Bool) (v : Verdict) (refused : Refusal → A) (accepted : A)
-    → ((reason : Refusal) → Truthful (mesh_in (refused reason)) (mark_in (refused reason))) → (v ≡ Passed → Truthful (mesh_in accepted) (mark_in accepted))
+    → ((reason : Refusal) → Truthful (mesh_in (refused reason)) (mark_in (refused reason))) → (v ≡ Ok tt → Truthful (mesh_in accepted) (mark_in accepted))
     → Truthful (mesh_in (answer v refused accepted)) (mark_in (answer v refused accepted))
-mark_truthful mesh_in mark_in Passed refused accepted before after = after refl
-mark_truthful mesh_in mark_in (Refused reason) refused accepted before after = before reason
+mark_truthful mesh_in mark_in (Ok tt) refused accepted before after = after refl
+mark_truthful mesh_in mark_in (Err reason) refused accepted before after = before reason
 
 pub reading_truthful : (m : Mesh) (mark : Bool) → Truthful m mark → Truthful m (mark_ascending m mark).mark
 unfolding mark_ascending
 reading_truthful m mark before =
-    mark_truthful (λ (outcome : MarkOutcome). m) (λ (outcome : MarkOutcome). outcome.mark) (adjacency_rows m) (λ reason. mark_outcome (Refused reason) mark) (mark_outcome Passed (lists_ascend m)) (λ reason. before) (λ rows ascend. ascend)
+    mark_truthful (λ (outcome : MarkOutcome). m) (λ (outcome : MarkOutcome). outcome.mark) (adjacency_rows m) (λ reason. mark_outcome (Err reason) mark) (mark_outcome (Ok tt) (lists_ascend m)) (λ reason. before) (λ rows ascend. ascend)

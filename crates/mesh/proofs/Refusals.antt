@@ -1,64 +1,74 @@
 -- Why a mesh is refused. `list_reasons`, `adjacency_reasons`, `mesh_reasons`: each reason is one of the rows'. `adjacency_index`, `mesh_index`: 18 tells the first start that falls, every other number nothing. `same_verdict`, `same_accepted`: the verdict is document 01's, but for 17 and 18 where that has 3. Assumes nothing.
-use Prim.Native.Nat.{ℕ}
+use Prim.Native.Nat.{ℕ, suc}
 use native.Mathlib.Omega.{arith}
 use mathlib.Core.Path.{◌≡◌, refl, sym, ap, ◌∙◌}
 use mathlib.Core.Logic.{◌≢◌, ◌⊎◌, inl, inr, ◌↔◌}
-use mathlib.Core.Bool.{Bool, true, false, ◌&&◌, ◌||◌, cond}
+use mathlib.Core.Bool.{Bool, true, false, ◌&&◌}
 use mathlib.Core.List.{List}
 use lib.Dec.{eqb}
+use lib.ListN.{length}
 use borrow.Author.Tests.{eqb-true}
+use Rattle.std.specs.Prelude.{Option, Some, None, Ok, Err}
 use Rattle.refusal.specs.declared.Refusal.{Refusal}
-use Rattle.refusal.specs.declared.Verdict.{Verdict}
-use Rattle.refusal.specs.declared.Verdict.TheVariants.{Passed, Refused}
-use Rattle.refusal.specs.Refusal.{refusal, refusal_at, row}
-use Rattle.refusal.proofs.Rows.{refused_not_passed, EachReason, reasons_passed, reasons_row, reasons_then}
+use Rattle.refusal.specs.declared.Refusal.TheVariants.{Count, Starts, Id, Position, StartsSpan, StartsFall}
+use Rattle.refusal.specs.Refusal.{number_of, index_of, Verdict, row}
+use Rattle.refusal.proofs.Rows.{refused_not_passed, EachReason, reasons_passed, reasons_refused, reasons_row, reasons_then}
 use Rattle.mesh.specs.Mesh.{Mesh, count}
-use Rattle.mesh.specs.Rows.{positions_fit, starts_counted, starts_span, starts_ascend, first_fall, lists_limited, ids_below, list_rows, positions_admissible, adjacency_rows, mesh_rows}
-use Rattle.mesh.proofs.Falls.{FirstFall, fall_first, fall_not_ascend}
+use Rattle.mesh.specs.Rows.{positions_fit, starts_counted, starts_span, starts_ascend, falling_start, fall_row, lists_limited, ids_below, list_rows, positions_admissible, adjacency_rows, mesh_rows}
+use Rattle.mesh.proofs.Falls.{FirstFall, fall_first, ascend_no_fall, ascend_fall}
 
 -- ---- each reason is one of the rows': 18 only where a start falls
 module _ (P : Refusal → Type 0) where
-  pub list_reasons : (n : ℕ) (starts entries : List ℕ) → P (refusal 3) → P (refusal 17) → (first_fall starts ≢ 0 → P (refusal_at 18 (first_fall starts))) → P (refusal 4) → EachReason P (list_rows n starts entries)
-  unfolding list_rows starts_counted
-  list_reasons n starts entries at_3 at-17 at-18 at_4 =
-      reasons_row P (starts_counted n starts) (refusal 3) _ (λ e. at_3) (λ size.
-      reasons_row P (starts_span n starts entries) (refusal 17) _ (λ e. at-17) (λ span.
-      reasons_row P (starts_ascend n starts) (refusal_at 18 (first_fall starts)) _ (λ e. at-18 (fall_not_ascend n starts (eqb-true _ _ size) e)) (λ ascend.
-      reasons_row P (lists_limited n starts) (refusal 3) _ (λ e. at_3) (λ limit.
-      reasons_row P (ids_below n entries) (refusal 4) Passed (λ e. at_4) (λ below. reasons_passed P)))))
+  -- row 18, with the index that it names
+  reasons_fall : (fall : Option ℕ) (next : Verdict) → ((index : ℕ) → fall ≡ Some index → P (StartsFall index)) → (fall ≡ None → EachReason P next) → EachReason P (fall_row fall next)
+  reasons_fall None next mine rest = rest refl
+  reasons_fall (Some index) next mine rest = reasons_refused P (StartsFall index) (mine index refl)
 
-  module _ (m : Mesh) (at_2 : P (refusal 2)) (at_3 : P (refusal 3)) (at-17 : P (refusal 17)) (at-18 : first_fall m.starts ≢ 0 → P (refusal_at 18 (first_fall m.starts))) (at_4 : P (refusal 4)) where
+  pub list_reasons : (n : ℕ) (starts entries : List ℕ) → P Starts → P StartsSpan → ((index : ℕ) → falling_start starts ≡ Some index → P (StartsFall index)) → P Id → EachReason P (list_rows n starts entries)
+  unfolding list_rows
+  list_reasons n starts entries at_3 at_17 at_18 at_4 =
+      reasons_row P (starts_counted n starts) Starts _ (λ e. at_3) (λ size.
+      reasons_row P (starts_span n starts entries) StartsSpan _ (λ e. at_17) (λ span.
+      reasons_fall (falling_start starts) _ at_18 (λ none.
+      reasons_row P (lists_limited n starts) Starts _ (λ e. at_3) (λ limit.
+      reasons_row P (ids_below n entries) Id (Ok tt) (λ e. at_4) (λ below. reasons_passed P)))))
+
+  module _ (m : Mesh) (at_2 : P Count) (at_3 : P Starts) (at_17 : P StartsSpan) (at_18 : (index : ℕ) → falling_start m.starts ≡ Some index → P (StartsFall index)) (at_4 : P Id) where
     pub adjacency_reasons : EachReason P (adjacency_rows m)
     unfolding adjacency_rows
-    adjacency_reasons = reasons_row P (positions_fit m.positions) (refusal 2) _ (λ e. at_2) (λ fit. list_reasons (count m) m.starts m.entries at_3 at-17 at-18 at_4)
+    adjacency_reasons = reasons_row P (positions_fit m.positions) Count _ (λ e. at_2) (λ fit. list_reasons (count m) m.starts m.entries at_3 at_17 at_18 at_4)
 
-    pub mesh_reasons : P (refusal 5) → EachReason P (mesh_rows m)
+    pub mesh_reasons : P Position → EachReason P (mesh_rows m)
     unfolding mesh_rows
     mesh_reasons at_5 =
-        reasons_then P (adjacency_rows m) _ adjacency_reasons (reasons_row P (positions_admissible m.positions) (refusal 5) Passed (λ e. at_5) (λ admissible. reasons_passed P))
+        reasons_then P (adjacency_rows m) _ adjacency_reasons (reasons_row P (positions_admissible m.positions) Position (Ok tt) (λ e. at_5) (λ admissible. reasons_passed P))
 
 -- ---- the index
 -- what the index of a refusal tells of the starts: with 18 it is that of the first that falls, and with every other number it is 0
 abbrev pub IndexTold : List ℕ → Refusal → Type 0
-IndexTold starts reason = ((reason.number ≡ 18) × FirstFall starts reason.index) ⊎ ((reason.number ≢ 18) × (reason.index ≡ 0))
+IndexTold starts reason = ((number_of reason ≡ 18) × FirstFall starts (index_of reason)) ⊎ ((number_of reason ≢ 18) × (index_of reason ≡ 0))
+
+other_none : (reason : Refusal) → number_of reason ≢ 18 → index_of reason ≡ 0
+other_none (StartsFall index) other = absurd (other refl)
+other_none reason other = refl
 
 module _ (starts : List ℕ) where
-  pub told_none : (number : ℕ) → number ≢ 18 → IndexTold starts (refusal number)
-  told_none number other = inr (other, refl)
+  pub told_none : (reason : Refusal) → number_of reason ≢ 18 → IndexTold starts reason
+  told_none reason other = inr (other, other_none reason other)
 
-  pub told_fall : first_fall starts ≢ 0 → IndexTold starts (refusal_at 18 (first_fall starts))
-  told_fall falls = inl (refl, fall_first starts falls)
+  pub told_fall : (index : ℕ) → falling_start starts ≡ Some index → IndexTold starts (StartsFall index)
+  told_fall index falls = inl (refl, fall_first starts index falls)
 
 module _ (m : Mesh) where
   pub adjacency_index : EachReason (IndexTold m.starts) (adjacency_rows m)
   adjacency_index =
-      adjacency_reasons (IndexTold m.starts) m (told_none m.starts 2 (λ z. omega arith)) (told_none m.starts 3 (λ z. omega arith)) (told_none m.starts 17 (λ z. omega arith)) (told_fall m.starts)
-      (told_none m.starts 4 (λ z. omega arith))
+      adjacency_reasons (IndexTold m.starts) m (told_none m.starts Count (λ z. omega arith)) (told_none m.starts Starts (λ z. omega arith)) (told_none m.starts StartsSpan (λ z. omega arith)) (told_fall m.starts)
+      (told_none m.starts Id (λ z. omega arith))
 
   pub mesh_index : EachReason (IndexTold m.starts) (mesh_rows m)
   mesh_index =
-      mesh_reasons (IndexTold m.starts) m (told_none m.starts 2 (λ z. omega arith)) (told_none m.starts 3 (λ z. omega arith)) (told_none m.starts 17 (λ z. omega arith)) (told_fall m.starts)
-      (told_none m.starts 4 (λ z. omega arith)) (told_none m.starts 5 (λ z. omega arith))
+      mesh_reasons (IndexTold m.starts) m (told_none m.starts Count (λ z. omega arith)) (told_none m.starts Starts (λ z. omega arith)) (told_none m.starts StartsSpan (λ z. omega arith)) (told_fall m.starts)
+      (told_none m.starts Id (λ z. omega arith)) (told_none m.starts Position (λ z. omega arith))
 
 -- ---- document 01's own rows 2 to 4, from which W-209 took 17 and 18
 -- its row 3 refuses "wrong length, not from 0, falling, last not the entry count, or a neighbour list over 32"
@@ -66,37 +76,39 @@ abbrev pub row_three : Mesh → Bool
 row_three m = starts_counted (count m) m.starts && (starts_span (count m) m.starts m.entries && (starts_ascend (count m) m.starts && lists_limited (count m) m.starts))
 
 abbrev pub document_rows : Mesh → Verdict
-document_rows m = row (positions_fit m.positions) (refusal 2) (row (row_three m) (refusal 3) (row (ids_below (count m) m.entries) (refusal 4) Passed))
+document_rows m = row (positions_fit m.positions) Count (row (row_three m) Starts (row (ids_below (count m) m.entries) Id (Ok tt)))
 
--- a refusal with the number that document 01 gives it, and no index
-abbrev pub document_number : ℕ → ℕ
-document_number number = cond (eqb number 17 || eqb number 18) 3 number
+-- a refusal as document 01 gives it: for rows 17 and 18 its row 3
+abbrev pub document_reason : Refusal → Refusal
+document_reason StartsSpan = Starts
+document_reason (StartsFall index) = Starts
+document_reason reason = reason
 
 abbrev pub document_verdict : Verdict → Verdict
-document_verdict Passed = Passed
-document_verdict (Refused reason) = Refused (refusal (document_number reason.number))
+document_verdict (Ok _) = Ok tt
+document_verdict (Err reason) = Err (document_reason reason)
 
 pub same_verdict : (m : Mesh) → document_verdict (adjacency_rows m) ≡ document_rows m
-unfolding adjacency_rows list_rows
+unfolding adjacency_rows list_rows starts_counted
 same_verdict m =
-    same (positions_fit m.positions) (starts_counted (count m) m.starts) (starts_span (count m) m.starts m.entries) (starts_ascend (count m) m.starts) (lists_limited (count m) m.starts)
-    (ids_below (count m) m.entries)
+    same (positions_fit m.positions) (eqb (length m.starts) (suc (count m))) (starts_span (count m) m.starts m.entries) (falling_start m.starts) (starts_ascend (count m) m.starts) (lists_limited (count m) m.starts)
+    (ids_below (count m) m.entries) (λ counted. ascend_no_fall (count m) m.starts (eqb-true _ _ counted)) (λ counted. ascend_fall (count m) m.starts (eqb-true _ _ counted))
   where
-    same : (fit counted span ascend limited below : Bool)
-        → document_verdict (row fit (refusal 2) (row counted (refusal 3) (row span (refusal 17) (row ascend (refusal_at 18 (first_fall m.starts)) (row limited (refusal 3) (row below (refusal 4) Passed))))))
-        ≡ row fit (refusal 2) (row (counted && (span && (ascend && limited))) (refusal 3) (row below (refusal 4) Passed))
-    same false counted span ascend limited below = refl
-    same true false span ascend limited below = refl
-    same true true false ascend limited below = refl
-    same true true true false limited below = refl
-    same true true true true false below = refl
-    same true true true true true false = refl
-    same true true true true true true = refl
+    same : (fit counted span : Bool) (fall : Option ℕ) (ascend limited below : Bool) → (counted ≡ true → fall ≡ None → ascend ≡ true) → (counted ≡ true → (index : ℕ) → fall ≡ Some index → ascend ≡ false)
+        → document_verdict (row fit Count (row counted Starts (row span StartsSpan (fall_row fall (row limited Starts (row below Id (Ok tt)))))))
+        ≡ row fit Count (row (counted && (span && (ascend && limited))) Starts (row below Id (Ok tt)))
+    same false counted span fall ascend limited below up down = refl
+    same true false span fall ascend limited below up down = refl
+    same true true false fall ascend limited below up down = refl
+    same true true true (Some index) ascend limited below up down = rw (down refl index refl) refl
+    same true true true None ascend false below up down = rw (up refl refl) refl
+    same true true true None ascend true false up down = rw (up refl refl) refl
+    same true true true None ascend true true up down = rw (up refl refl) refl
 
 -- so exactly the same meshes pass
-pub same_accepted : (m : Mesh) → (adjacency_rows m ≡ Passed) ↔ (document_rows m ≡ Passed)
+pub same_accepted : (m : Mesh) → (adjacency_rows m ≡ Ok tt) ↔ (document_rows m ≡ Ok tt)
 same_accepted m = (λ h. sym (same_verdict m) ∙ ap document_verdict h, λ h. passed (adjacency_rows m) (same_verdict m ∙ h))
   where
-    passed : (v : Verdict) → document_verdict v ≡ Passed → v ≡ Passed
-    passed Passed h = refl
-    passed (Refused reason) h = absurd (refused_not_passed _ h)
+    passed : (v : Verdict) → document_verdict v ≡ Ok tt → v ≡ Ok tt
+    passed (Ok _) h = refl
+    passed (Err reason) h = absurd (refused_not_passed _ h)

@@ -1,9 +1,7 @@
 -- The mark of a mesh that its neighbour lists ascend, and the call that reads them (W-208). Definitions only.
-use Rattle.std.specs.Prelude.{ℕ, ◌-◌, ◌≡◌, Bool, true, List, length}
+use Rattle.std.specs.Prelude.{ℕ, ◌-◌, ◌≡◌, Bool, true, List, length, Ok, Err}
 use Rattle.sequences.specs.Range.{all_below}
-use Rattle.refusal.specs.declared.Verdict.{Verdict}
-use Rattle.refusal.specs.declared.Verdict.TheVariants.{Passed, Refused}
-use Rattle.refusal.specs.Refusal.{answer}
+use Rattle.refusal.specs.Refusal.{Verdict, answer}
 use Rattle.mesh.specs.Mesh.{Mesh, count, neighbours}
 use Rattle.mesh.specs.Rows.{not_falling, adjacency_rows}
 
@@ -28,4 +26,4 @@ mark_outcome verdict mark = record { answered = verdict; mark = mark }
 
 -- "a reading call, which after rows 2 to 4 sets the mark exactly when all its lists ascend, and else clears it"
 unfoldable pub mark_ascending : Mesh → Bool → MarkOutcome
-mark_ascending m mark = answer (adjacency_rows m) (λ reason. mark_outcome (Refused reason) mark) (mark_outcome Passed (lists_ascend m))
+mark_ascending m mark = answer (adjacency_rows m) (λ reason. mark_outcome (Err reason) mark) (mark_outcome (Ok tt) (lists_ascend m))

@@ -1,9 +1,9 @@
 -- Rows 2 to 5 of document 01's table, with rows 17 and 18 of W-209: what each asks of a mesh, and the chains that operations begin with. Definitions only.
-use Rattle.std.specs.Prelude.{ℕ, suc, ◌-◌, ◌%◌, Bool, ◌&&◌, cond, List, leb, ltb, eqb, length, get_or, Float}
+use Rattle.std.specs.Prelude.{ℕ, suc, ◌-◌, ◌%◌, Bool, ◌&&◌, cond, List, leb, ltb, eqb, length, get_or, Float, Option, Some, None, Result, Ok, Err}
 use Rattle.sequences.specs.Range.{all_below, first_failing}
-use Rattle.refusal.specs.declared.Verdict.{Verdict}
-use Rattle.refusal.specs.declared.Verdict.TheVariants.{Passed}
-use Rattle.refusal.specs.Refusal.{refusal, refusal_at, row, then}
+use Rattle.refusal.specs.declared.Refusal.{Refusal}
+use Rattle.refusal.specs.declared.Refusal.TheVariants.{Count, Starts, Id, Position, StartsSpan, StartsFall}
+use Rattle.refusal.specs.Refusal.{Verdict, row, then, answer}
 use Rattle.vector.specs.Direction.{admissible}
 use Rattle.mesh.specs.Mesh.{Mesh, vertex_count, count, position_of}
 
@@ -35,11 +35,15 @@ not_falling starts v = leb (get_or starts v 0) (get_or starts (suc v) 0)
 unfoldable pub starts_ascend : ℕ → List ℕ → Bool
 starts_ascend n starts = all_below (not_falling starts) n
 
--- It does so "carrying the index of the first start below the one before it", counted from 0; here 0 where none falls.
-unfoldable pub first_fall : List ℕ → ℕ
-first_fall starts =
+-- It does so "carrying the index of the first start below the one before it", counted from 0.
+unfoldable pub falling_start : List ℕ → Option ℕ
+falling_start starts =
     let pairs = length starts - 1 in
-    cond (all_below (not_falling starts) pairs) 0 (suc (first_failing (not_falling starts) pairs))
+    cond (all_below (not_falling starts) pairs) None (Some (suc (first_failing (not_falling starts) pairs)))
+
+abbrev pub fall_row : Option ℕ → Verdict → Verdict
+fall_row None next = next
+fall_row (Some index) next = Err (StartsFall index)
 
 -- Row 3 again: "a list over 32".
 unfoldable pub lists_limited : ℕ → List ℕ → Bool
@@ -52,11 +56,11 @@ ids_below n ids = all_below (λ i. ltb (get_or ids i 0) n) (length ids)
 -- "Where papers name row 3, 17 and 18 belong to it" (W-209): rows 3 and 4 of the lists of n vertices. They ask nothing of positions.
 unfoldable pub list_rows : ℕ → List ℕ → List ℕ → Verdict
 list_rows n starts entries =
-    row (starts_counted n starts) (refusal 3)
-    (row (starts_span n starts entries) (refusal 17)
-    (row (starts_ascend n starts) (refusal_at 18 (first_fall starts))
-    (row (lists_limited n starts) (refusal 3)
-    (row (ids_below n entries) (refusal 4) Passed))))
+    row (starts_counted n starts) Starts
+    (row (starts_span n starts entries) StartsSpan
+    (fall_row (falling_start starts)
+    (row (lists_limited n starts) Starts
+    (row (ids_below n entries) Id (Ok tt)))))
 
 -- ---- rows of a mesh
 -- Row 5 refuses "a position with a non-finite component or computed squared length outside 2^−40..2^40, ends allowed".
@@ -65,8 +69,12 @@ positions_admissible positions = all_below (λ v. admissible (position_of positi
 
 -- "The walk and renumbering skip row 5": rows 2 to 4.
 unfoldable pub adjacency_rows : Mesh → Verdict
-adjacency_rows m = row (positions_fit m.positions) (refusal 2) (list_rows (count m) m.starts m.entries)
+adjacency_rows m = row (positions_fit m.positions) Count (list_rows (count m) m.starts m.entries)
 
 -- The builder's mesh rows, 2 to 5.
 unfoldable pub mesh_rows : Mesh → Verdict
-mesh_rows m = then (adjacency_rows m) (row (positions_admissible m.positions) (refusal 5) Passed)
+mesh_rows m = then (adjacency_rows m) (row (positions_admissible m.positions) Position (Ok tt))
+
+-- A mesh that rows 2 to 4 let pass, as a value that is checked once.
+unfoldable pub checked_mesh : Mesh → Result Mesh Refusal
+checked_mesh m = answer (adjacency_rows m) Err (Ok m)

@@ -13,11 +13,11 @@ pub fn read_full<R: Read + Drop>(mut input: R, text: &mut [u8]) -> usize
     ensures prefix { result ≡ length (take result text.new) }
 {
     let mut done = 0;
+    // By hand, since std's loops over `read` do not say how much was read before a failure.
     while done < text.len() {
         match input.read(&mut text[done..]) {
-            Ok(0) => break,
+            Ok(0) | Err(_) => break,
             Ok(n) => done += n,
-            Err(_) => break,
         }
     }
     done

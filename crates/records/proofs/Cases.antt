@@ -1,17 +1,21 @@
 -- Words, lists and hashes worked out from the definitions. Assumes nothing.
-use Prim.Native.Nat.{ℕ}
-use mathlib.Core.Path.{◌≡◌, refl}
-use mathlib.Core.Bool.{Bool, true, false}
-use mathlib.Core.List.{List, [], ◌∷◌, map}
+use Rattle.std.proofs.Common.{ℕ, ◌≡◌, Bool, true, false, List, [], ◌∷◌, Result, Ok, Err, map, refl}
+use Rattle.std.specs.Result.{is_ok}
 use lib.Ieee.{nan, to_bits}
-use Rattle.records.specs.declared.Word.{Word}
-use Rattle.records.specs.Words.{cursor_at, good_word, bad_word, digit_value, leading_digits, with_digits, digits_word, digits_at, nan_pattern, spells_nan, token_at, line_goes_on, delimited, next_word, expected}
+use Rattle.records.specs.declared.reader.Fault.{Fault}
+use Rattle.records.specs.declared.reader.Fault.TheVariants.{Malformed}
+use Rattle.records.specs.At.{at}
+use Rattle.records.specs.Words.{digit_value, leading_digits, with_digits, digits_word, digits_at, nan_pattern, spells_nan, token_at, line_goes_on, delimited, next_word, expected}
 use Rattle.records.specs.Lists.{pattern, expected_each}
 use Rattle.records.specs.Hash.{offset_basis, hashed_byte, hashed_bytes, bytes_of, bytes_of_each}
 
--- the first word of a text
-abbrev first : List ℕ → Word
-first text = next_word text (cursor_at 0 true)
+-- the first word of a text, and the place behind it
+abbrev first : List ℕ → Result ℕ Fault × ℕ
+first text = let word = next_word (at text 0) in (word.outcome, word.behind.place)
+
+-- a word that is malformed, with the reader before it
+abbrev malformed : Result ℕ Fault × ℕ
+malformed = (Err Malformed, 0)
 
 -- `1f 0`, `1f`, `nan 0` and 16 digits, each with a line feed behind it
 pub good_words :
@@ -21,7 +25,7 @@ pub good_words :
     ∷ (110 ∷ 97 ∷ 110 ∷ 32 ∷ 48 ∷ 10 ∷ [])
     ∷ (102 ∷ 102 ∷ 102 ∷ 102 ∷ 102 ∷ 102 ∷ 102 ∷ 102 ∷ 102 ∷ 102 ∷ 102 ∷ 102 ∷ 102 ∷ 102 ∷ 102 ∷ 102 ∷ 10 ∷ [])
     ∷ [])
-    ≡ good_word 31 3 ∷ good_word 31 2 ∷ good_word nan_pattern 4 ∷ good_word 0xffffffffffffffff 16 ∷ []
+    ≡ (Ok 31, 3) ∷ (Ok 31, 2) ∷ (Ok nan_pattern, 4) ∷ (Ok 0xffffffffffffffff, 16) ∷ []
 unfolding next_word delimited token_at spells_nan digits_at digits_word with_digits leading_digits digit_value line_goes_on
 good_words = refl
 
@@ -35,7 +39,7 @@ pub bad_words :
     ∷ (49 ∷ [])
     ∷ (49 ∷ 32 ∷ 10 ∷ [])
     ∷ [])
-    ≡ bad_word 0 ∷ bad_word 0 ∷ bad_word 0 ∷ bad_word 0 ∷ bad_word 0 ∷ bad_word 0 ∷ []
+    ≡ malformed ∷ malformed ∷ malformed ∷ malformed ∷ malformed ∷ malformed ∷ []
 unfolding next_word delimited token_at spells_nan digits_at digits_word with_digits leading_digits digit_value line_goes_on
 bad_words = refl
 
@@ -46,7 +50,7 @@ nan_pattern_lem = refl
 
 -- whether a text holds the numbers 1 and 2
 abbrev holds_one_two : List ℕ → Bool
-holds_one_two text = (expected_each text (cursor_at 0 true) (1 ∷ 2 ∷ [])).good
+holds_one_two text = is_ok (expected_each (1 ∷ 2 ∷ []) (at text 0)).outcome
 
 -- `1 2`, `1 3`, `2 2`, `1`, and `1 2` with two spaces
 pub lists :

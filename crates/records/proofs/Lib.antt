@@ -1,5 +1,4 @@
-pub mod Run
-pub mod Words
-pub mod Lists
-pub mod Hash
+pub mod Digits
+pub mod Hashing
+pub mod Readings
 pub mod Cases

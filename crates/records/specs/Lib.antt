@@ -1,3 +1,4 @@
+pub mod At
 pub mod Words
 pub mod Lists
 pub mod Hash

@@ -1,9 +1,11 @@
 -- The words of a record (crates/replay/README.md, "Form"). A text is a list of bytes (ASCII). Definitions only.
-use Rattle.std.specs.Prelude.{ℕ, suc, ◌+◌, ◌-◌, ◌*◌, Bool, true, false, not, ◌&&◌, cond, List, [], ◌∷◌, ltb, leb, eqb, length, get_or, drop}
-use Rattle.records.specs.declared.Cursor.{Cursor}
-use Rattle.records.specs.declared.Word.{Word}
-use Rattle.records.specs.declared.Word32.{Word32}
-use Rattle.records.specs.declared.Length.{Length}
+use Rattle.std.specs.Prelude.{ℕ, ◌+◌, ◌-◌, ◌*◌, Bool, not, ◌&&◌, cond, List, [], ◌∷◌, Option, None, Some, Result, Ok, Err, ltb, leb, eqb, length, get_or, drop}
+use Rattle.std.specs.List.{position}
+use Rattle.std.specs.Option.{unwrap_or}
+use Rattle.records.specs.declared.word.Word.{Word}
+use Rattle.records.specs.declared.reader.Fault.{Fault}
+use Rattle.records.specs.declared.reader.Fault.TheVariants.{Malformed, TooGreat, Different, TooMany}
+use Rattle.records.specs.At.{At, at}
 
 abbrev pub space : ℕ
 space = 32
@@ -13,31 +15,22 @@ line_feed = 10
 
 -- The byte at a place, and 0 behind the text's end.
 abbrev pub byte_at : List ℕ → ℕ → ℕ
-byte_at text at = get_or text at 0
-
-abbrev pub cursor_at : ℕ → Bool → Cursor
-cursor_at at good = record { at = at; good = good }
-
-abbrev pub good_word : ℕ → ℕ → Word
-good_word value at = record { value = value; at = at; good = true }
-
--- A bad word has the number 0.
-abbrev pub bad_word : ℕ → Word
-bad_word at = record { value = 0; at = at; good = false }
-
-abbrev pub cursor_of : Word → Cursor
-cursor_of word = cursor_at word.at word.good
+byte_at text place = get_or text place 0
 
 -- ---- tokens
 
--- "hexadecimal digits (lower case ..)": what a byte counts as a digit, 0 to 9 or a to f; 16 where it is none.
-unfoldable pub digit_value : ℕ → ℕ
-digit_value byte = cond (leb 48 byte && leb byte 57) (byte - 48) (cond (leb 97 byte && leb byte 102) (byte - 97 + 10) 16)
+-- A number that a text has, and where the text goes on behind it.
+abbrev pub word_to : ℕ → ℕ → Word
+word_to value end = record { value = value; end = end }
+
+-- "hexadecimal digits (lower case ..)": what a byte counts as a digit, 0 to 9 or a to f; nothing where it is none.
+unfoldable pub digit_value : ℕ → Option ℕ
+digit_value byte = cond (leb 48 byte && leb byte 57) (Some (byte - 48)) (cond (leb 97 byte && leb byte 102) (Some (byte - 97 + 10)) None)
 
 -- The digits that a text begins with.
 unfoldable pub leading_digits : List ℕ → List ℕ
 leading_digits [] = []
-leading_digits (byte ∷ rest) = cond (ltb (digit_value byte) 16) (digit_value byte ∷ leading_digits rest) []
+leading_digits (byte ∷ rest) = elim (digit_value byte) [ None ↦ [] | Some digit ↦ digit ∷ leading_digits rest ]
 
 -- A number with further digits written behind it.
 unfoldable pub with_digits : ℕ → List ℕ → ℕ
@@ -45,12 +38,11 @@ with_digits number [] = number
 with_digits number (digit ∷ rest) = with_digits (number * 16 + digit) rest
 
 -- "a number in hexadecimal digits (.., 16 at most)": the word of these digits, without what follows.
-unfoldable pub digits_word : ℕ → List ℕ → Word
-digits_word start digits =
-    cond (leb 1 (length digits) && leb (length digits) 16) (good_word (with_digits 0 digits) (start + length digits)) (bad_word start)
+unfoldable pub digits_word : ℕ → List ℕ → Option Word
+digits_word start digits = cond (leb 1 (length digits) && leb (length digits) 16) (Some (word_to (with_digits 0 digits) (start + length digits))) None
 
 -- The digits from a place on.
-unfoldable pub digits_at : List ℕ → ℕ → Word
+unfoldable pub digits_at : List ℕ → ℕ → Option Word
 digits_at text start = digits_word start (leading_digits (drop start text))
 
 -- "or `nan`": the bytes n, a, n.
@@ -62,56 +54,86 @@ abbrev pub nan_pattern : ℕ
 nan_pattern = 0x7ff8000000000000
 
 -- A word without what follows it: `nan`, or digits.
-unfoldable pub token_at : List ℕ → ℕ → Word
-token_at text start = cond (spells_nan text start) (good_word nan_pattern (start + 3)) (digits_at text start)
+unfoldable pub token_at : List ℕ → ℕ → Option Word
+token_at text start = cond (spells_nan text start) (Some (word_to nan_pattern (start + 3))) (digits_at text start)
+
+-- ---- what a reader takes
+
+-- What came of a reading, and where the reader stands behind it.
+pub record Reading (A : Type 0) : Type 0 where
+  pub outcome : Result A Fault
+  pub behind : At
+
+module _ {A : Type 0} where
+  abbrev pub reading : Result A Fault → At → Reading A
+  reading outcome behind = record { outcome = outcome; behind = behind }
+
+  abbrev pub found : A → At → Reading A
+  found a behind = reading (Ok a) behind
+
+  abbrev pub failed : Fault → At → Reading A
+  failed fault behind = reading (Err fault) behind
+
+module _ {A B : Type 0} where
+  -- A reading behind another. Behind a fault nothing is read: the fault stays, and the reader stays where it is.
+  abbrev pub go_on : Result A Fault → At → (A → At → Reading B) → Reading B
+  go_on (Ok a) behind next = next a behind
+  go_on (Err fault) behind next = failed fault behind
+
+  abbrev pub and_then : Reading A → (A → At → Reading B) → Reading B
+  and_then first next = go_on first.outcome first.behind next
 
 -- ---- words
 
 -- Whether a line has a byte at a place.
 unfoldable pub line_goes_on : List ℕ → ℕ → Bool
-line_goes_on text at = ltb at (length text) && not (eqb (byte_at text at) line_feed)
+line_goes_on text place = ltb place (length text) && not (eqb (byte_at text place) line_feed)
 
--- "A record is a line: words with one space between them": behind a token stands the line feed, and the cursor stays at it; or a space with more of the line behind it, and the cursor passes the space.
-unfoldable pub delimited : List ℕ → ℕ → Word → Word
-delimited text start token =
-    cond (token.good && eqb (byte_at text token.at) line_feed) (good_word token.value token.at)
-    (cond (token.good && (eqb (byte_at text token.at) space && line_goes_on text (token.at + 1))) (good_word token.value (token.at + 1)) (bad_word start))
+-- "A record is a line: words with one space between them": behind a token stands the line feed, and the reader stays at it; or a space with more of the line behind it, and the reader passes the space.
+unfoldable pub delimited : At → Word → Reading ℕ
+delimited from word =
+    cond (eqb (byte_at from.text word.end) line_feed) (found word.value (at from.text word.end))
+    (cond (eqb (byte_at from.text word.end) space && line_goes_on from.text (word.end + 1)) (found word.value (at from.text (word.end + 1))) (failed Malformed from))
 
--- The next word. One that is malformed is bad, and the cursor stays before it; a bad cursor stays bad, and where it is.
-unfoldable pub next_word : List ℕ → Cursor → Word
-next_word text cursor = cond cursor.good (delimited text cursor.at (token_at text cursor.at)) (bad_word cursor.at)
+-- The next word. The reader stays before one that is malformed.
+unfoldable pub next_word : At → Reading ℕ
+next_word from = elim (token_at from.text from.place) [ None ↦ failed Malformed from | Some word ↦ delimited from word ]
 
--- A word, bad where its number is greater than `most`.
-unfoldable pub limited : ℕ → Word → Word
-limited most word = cond (leb word.value most) word (bad_word word.at)
+-- A number, where it is at most `most`.
+abbrev pub limited : ℕ → ℕ → At → Reading ℕ
+limited most number behind = cond (leb number most) (found number behind) (failed TooGreat behind)
 
 -- The next word, its number at most `most`.
-unfoldable pub word_at_most : ℕ → List ℕ → Cursor → Word
-word_at_most most text cursor = limited most (next_word text cursor)
+unfoldable pub word_at_most : ℕ → At → Reading ℕ
+word_at_most most from = and_then (next_word from) (limited most)
 
--- The same as a word of 32 bits, and as a number of places.
-abbrev pub word32 : Word → Word32
-word32 word = record { value = word.value; at = word.at; good = word.good }
-
-abbrev pub length_word : Word → Length
-length_word word = record { places = word.value; at = word.at; good = word.good }
+-- The next word as a value of a type, of which `most` is the greatest word.
+abbrev pub element_read : {A : Type 0} → ℕ → (ℕ → A) → At → Reading A
+element_read most of_word from = and_then (word_at_most most from) (λ number behind. found (of_word number) behind)
 
 -- ---- comparisons
 
--- The same cursor, bad unless a condition holds.
-abbrev pub only_if : Cursor → Bool → Cursor
-only_if cursor holds = cursor_at cursor.at (cursor.good && holds)
+-- A number, where it is the expected one.
+abbrev pub compared : ℕ → ℕ → At → Reading (Unit {0})
+compared number other behind = cond (eqb other number) (found tt behind) (failed Different behind)
 
--- The cursor behind the next word: good where this is good and is the number.
-unfoldable pub expected : List ℕ → Cursor → ℕ → Cursor
-expected text cursor number = only_if (cursor_of (next_word text cursor)) (eqb (next_word text cursor).value number)
+-- The next word, compared with a number.
+unfoldable pub expected : ℕ → At → Reading (Unit {0})
+expected number from = and_then (next_word from) (compared number)
 
 -- ---- lines
 
+-- A line ends where the reader stands.
+abbrev pub finished : At → Result (Unit {0}) Fault
+finished from = cond (line_goes_on from.text from.place) (Err TooMany) (Ok tt)
+
+-- How far the first line feed is, if there is one.
+abbrev pub line_feed_at : List ℕ → Option ℕ
+line_feed_at text = position (λ byte. eqb byte line_feed) text
+
 -- The bytes before the first line feed.
-unfoldable pub line_length : List ℕ → ℕ
-line_length [] = 0
-line_length (byte ∷ rest) = cond (eqb byte line_feed) 0 (suc (line_length rest))
+abbrev pub line_length : List ℕ → ℕ
+line_length text = unwrap_or (line_feed_at text) (length text)
 
 -- The place of the first line feed from a place on, or the text's end.
 abbrev pub line_end : List ℕ → ℕ → ℕ

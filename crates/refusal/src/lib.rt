@@ -2,33 +2,66 @@
 #![tactic(auto)]
 
 ghost use Rattle.std.specs.Prelude.{◌≡◌};
-ghost use Rattle.refusal.specs.Refusal.{refusal, refusal_at};
+ghost use Rattle.refusal.specs.Refusal.{number_of, index_of};
 
-// A row of document 01's table "Refused, by the place of the check". Every refusal of the engine is made here.
-// Row 18 names the start that falls by its index; for the other rows the index is 0.
-#[derive(Clone, Copy)]
-pub struct Refusal {
-    pub number: u32,
-    pub index: usize,
+// The rows of document 01's table "Refused, by the place of the check", with those that requests added: each refuses for one reason.
+// A chain of checks is a `Result<(), Refusal>`, so that `?` hands on the first row that refuses.
+#[derive(Clone, Copy, Debug, PartialEq, Eq)]
+pub enum Refusal {
+    Frequency,
+    Count,
+    Starts,
+    Id,
+    Position,
+    Permutation,
+    EntriesPerVertex,
+    Room,
+    Direction,
+    Flags,
+    EmptyCell,
+    NoTriangle,
+    Unreached,
+    StartsSpan,
+    // Names the start that falls, by its index (W-209).
+    StartsFall { index: usize },
+    Factor,
+    Margin,
 }
 
 impl Refusal {
-    pub fn new(number: u32) -> Self
-        ensures { result ≡ refusal number }
+    // The row's number.
+    pub fn number(self) -> u32
+        ensures { result ≡ number_of self }
     {
-        Self { number, index: 0 }
+        // By a match, since rows have gaps and a variant with a field is no number of its own.
+        match self {
+            Refusal::Frequency => 1,
+            Refusal::Count => 2,
+            Refusal::Starts => 3,
+            Refusal::Id => 4,
+            Refusal::Position => 5,
+            Refusal::Permutation => 6,
+            Refusal::EntriesPerVertex => 7,
+            Refusal::Room => 8,
+            Refusal::Direction => 9,
+            Refusal::Flags => 10,
+            Refusal::EmptyCell => 11,
+            Refusal::NoTriangle => 12,
+            Refusal::Unreached => 13,
+            Refusal::StartsSpan => 17,
+            Refusal::StartsFall { index: _ } => 18,
+            Refusal::Factor => 19,
+            Refusal::Margin => 20,
+        }
     }
 
-    pub fn at(number: u32, index: usize) -> Self
-        ensures { result ≡ refusal_at number index }
+    // The index that row 18 carries, and 0 for the others.
+    pub fn index(self) -> usize
+        ensures { result ≡ index_of self }
     {
-        Self { number, index }
+        match self {
+            Refusal::StartsFall { index } => index,
+            _ => 0,
+        }
     }
-}
-
-// What the rows of a chain found: the first that refuses, or none.
-#[derive(Clone, Copy)]
-pub enum Verdict {
-    Passed,
-    Refused(Refusal),
 }

@@ -4,7 +4,7 @@ use mathlib.Core.Path.{◌≡◌, refl}
 use mathlib.Core.Bool.{Bool, true}
 use mathlib.Core.List.{List}
 use lib.Ieee.{Float}
-use Rattle.refusal.specs.declared.Verdict.TheVariants.{Passed}
+use Rattle.std.specs.Prelude.{Ok}
 use Rattle.refusal.proofs.Rows.{then_passed, answers_relate}
 use Rattle.mesh.specs.Mesh.{Mesh, count}
 use Rattle.mesh.specs.Rows.{adjacency_rows}
@@ -22,7 +22,7 @@ pub record Alike (o₁ o₂ : RenumberOutcome) : Type 0 where
   pub values : o₁.values ≡ o₂.values
 
 module _ (m : Mesh) (values : List Float) (call : Call) where
-  accepted_ascend : renumber_rows m values call ≡ Passed → lists_ascend (renumbered_mesh call.permutation m) ≡ true
+  accepted_ascend : renumber_rows m values call ≡ Ok tt → lists_ascend (renumbered_mesh call.permutation m) ≡ true
   unfolding renumber_rows
   accepted_ascend h =
       let rows = then_passed (adjacency_rows m) (call_rows (count m) (longest_length m values) call) h in

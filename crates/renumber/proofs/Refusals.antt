@@ -8,8 +8,8 @@ use lib.Ieee.{Float}
 use Prim.Native.Nat.{max}
 use Rattle.sequences.specs.Permutation.{is_permutation}
 use Rattle.refusal.specs.declared.Refusal.{Refusal}
-use Rattle.refusal.specs.declared.Verdict.TheVariants.{Passed, Refused}
-use Rattle.refusal.specs.Refusal.{refusal}
+use Rattle.refusal.specs.declared.Refusal.TheVariants.{Permutation, EntriesPerVertex, Room}
+use Rattle.std.specs.Prelude.{Ok, Err}
 use Rattle.refusal.proofs.Rows.{refused_not_passed, answer_refused, EachReason, reasons_passed, reasons_row, reasons_then}
 use Rattle.mesh.specs.Mesh.{Mesh, count}
 use Rattle.mesh.specs.Rows.{adjacency_rows}
@@ -23,13 +23,13 @@ module _ (m : Mesh) (mark : Bool) (values : List Float) (call : Call) where
   call_index =
       let P = IndexTold m.starts in
       let none = told_none m.starts in
-      reasons_row P (is_permutation (count m) call.permutation) (refusal 6) _ (λ e. none 6 (λ z. omega arith)) (λ permutes.
-      reasons_row P (entries_per_vertex_fit (count m) call.entries_per_vertex) (refusal 7) _ (λ e. none 7 (λ z. omega arith)) (λ each.
-      reasons_row P (scratch_fits (max (longest_length m values) (length call.permutation)) call.scratch_lengths) (refusal 8) Passed (λ e. none 8 (λ z. omega arith)) (λ room. reasons_passed P)))
+      reasons_row P (is_permutation (count m) call.permutation) Permutation _ (λ e. none Permutation (λ z. omega arith)) (λ permutes.
+      reasons_row P (entries_per_vertex_fit (count m) call.entries_per_vertex) EntriesPerVertex _ (λ e. none EntriesPerVertex (λ z. omega arith)) (λ each.
+      reasons_row P (scratch_fits (max (longest_length m values) (length call.permutation)) call.scratch_lengths) Room (Ok tt) (λ e. none Room (λ z. omega arith)) (λ room. reasons_passed P)))
 
   -- 18 carries the index of the first start that falls, every other refusal 0
-  pub renumber_index : (reason : Refusal) → (apply_vertex_permutation m mark values call).answered ≡ Refused reason → IndexTold m.starts reason
+  pub renumber_index : (reason : Refusal) → (apply_vertex_permutation m mark values call).answered ≡ Err reason → IndexTold m.starts reason
   unfolding apply_vertex_permutation renumber_rows
   renumber_index reason h =
       reasons_then (IndexTold m.starts) (adjacency_rows m) _ (adjacency_index m) call_index reason
-      (answer_refused (λ (o : RenumberOutcome). o.answered ≡ Refused reason) (renumber_rows m values call) _ _ reason (λ e. refused_not_passed reason (sym e)) (λ other e. cc) h)
+      (answer_refused (λ (o : RenumberOutcome). o.answered ≡ Err reason) (renumber_rows m values call) _ _ reason (λ e. refused_not_passed reason (sym e)) (λ other e. cc) h)

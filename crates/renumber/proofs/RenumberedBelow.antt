@@ -5,7 +5,7 @@ use mathlib.Core.Bool.{Bool}
 use mathlib.Core.List.{List}
 use lib.ListN.{length, get_or}
 use lib.Ieee.{Float}
-use Rattle.refusal.specs.declared.Verdict.TheVariants.{Passed}
+use Rattle.std.specs.Prelude.{Ok}
 use Rattle.refusal.proofs.Rows.{refused_not_passed, then_passed, answer_passed}
 use Rattle.mesh.specs.Mesh.{Mesh, count}
 use Rattle.mesh.specs.Rows.{adjacency_rows}
@@ -19,12 +19,12 @@ pub record RenumberedFacts (n : ℕ) (m : Mesh) : Type 0 where
   pub same_count : count m ≡ n
   pub entries_below : (i : ℕ) → i < length m.entries → get_or m.entries i 0 < n
 
-passed_rows : (m : Mesh) (mark : Bool) (values : List Float) (call : Call) → (apply_vertex_permutation m mark values call).answered ≡ Passed → renumber_rows m values call ≡ Passed
+passed_rows : (m : Mesh) (mark : Bool) (values : List Float) (call : Call) → (apply_vertex_permutation m mark values call).answered ≡ Ok tt → renumber_rows m values call ≡ Ok tt
 unfolding apply_vertex_permutation
-passed_rows m mark values call h = answer_passed (λ (o : RenumberOutcome). o.answered ≡ Passed) (renumber_rows m values call) _ _ h refused_not_passed
+passed_rows m mark values call h = answer_passed (λ (o : RenumberOutcome). o.answered ≡ Ok tt) (renumber_rows m values call) _ _ h refused_not_passed
 
 -- every accepted renumbering
-pub renumbered_below : (m : Mesh) (mark : Bool) (values : List Float) (call : Call) → (apply_vertex_permutation m mark values call).answered ≡ Passed → RenumberedFacts (count m) (apply_vertex_permutation m mark values call).mesh
+pub renumbered_below : (m : Mesh) (mark : Bool) (values : List Float) (call : Call) → (apply_vertex_permutation m mark values call).answered ≡ Ok tt → RenumberedFacts (count m) (apply_vertex_permutation m mark values call).mesh
 unfolding renumber_rows
 renumbered_below m mark values call h =
     let passed = passed_rows m mark values call h in

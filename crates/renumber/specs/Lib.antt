@@ -1,2 +1,1 @@
 pub mod Renumber
-pub mod Lent

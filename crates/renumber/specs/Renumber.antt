@@ -1,14 +1,13 @@
 -- Renumbering: "by any permutation, which holds the new id at each old one, moves positions, lists and data and maps the entries" (document 01), and leaves each list ascending (W-208). Definitions only.
-use Rattle.std.specs.Prelude.{ℕ, ◌*◌, max, ◌≡◌, Bool, true, ◌||◌, cond, List, leb, eqb, length, get_or, Float}
+use Rattle.std.specs.Prelude.{ℕ, ◌*◌, max, ◌≡◌, Bool, true, ◌||◌, cond, List, leb, eqb, length, Float, Ok, Err}
+use Rattle.std.specs.List.{list_all}
 use Rattle.std.specs.Float.{nan}
-use Rattle.sequences.specs.Range.{all_below}
 use Rattle.sequences.specs.Starts.{concatenate, starts_of}
 use Rattle.sequences.specs.Permutation.{is_permutation, moved, moved_blocks, moved_pairs, relabelled}
 use Rattle.sequences.specs.Slabs.{map_slabs}
 use Rattle.refusal.specs.declared.Refusal.{Refusal}
-use Rattle.refusal.specs.declared.Verdict.{Verdict}
-use Rattle.refusal.specs.declared.Verdict.TheVariants.{Passed, Refused}
-use Rattle.refusal.specs.Refusal.{refusal, row, then, answer}
+use Rattle.refusal.specs.declared.Refusal.TheVariants.{Permutation, EntriesPerVertex, Room}
+use Rattle.refusal.specs.Refusal.{Verdict, row, then, answer}
 use Rattle.mesh.specs.Mesh.{Mesh, count, neighbours}
 use Rattle.mesh.specs.Rows.{adjacency_rows}
 
@@ -27,14 +26,14 @@ unfoldable pub longest_length : Mesh → List Float → ℕ
 longest_length m values = max (max (length m.positions) (length m.starts)) (max (length m.entries) (length values))
 
 unfoldable pub scratch_fits : ℕ → List ℕ → Bool
-scratch_fits places scratch_lengths = all_below (λ i. leb places (get_or scratch_lengths i 0)) (length scratch_lengths)
+scratch_fits places scratch_lengths = list_all (λ room. leb places room) scratch_lengths
 
 -- Rows 6 to 8 of a call on n vertices, with the length of the longest list of mesh and data. Row 6 refuses "wrong length, or not a permutation of the ids".
 unfoldable pub call_rows : ℕ → ℕ → Call → Verdict
 call_rows n longest call =
-    row (is_permutation n call.permutation) (refusal 6)
-    (row (entries_per_vertex_fit n call.entries_per_vertex) (refusal 7)
-    (row (scratch_fits (max longest (length call.permutation)) call.scratch_lengths) (refusal 8) Passed))
+    row (is_permutation n call.permutation) Permutation
+    (row (entries_per_vertex_fit n call.entries_per_vertex) EntriesPerVertex
+    (row (scratch_fits (max longest (length call.permutation)) call.scratch_lengths) Room (Ok tt)))
 
 -- Positions are blocks of three. The list of a new id is that of its old one, each entry taken through the permutation, ascending.
 unfoldable pub renumbered_mesh : List ℕ → Mesh → Mesh
@@ -66,9 +65,9 @@ renumber_rows m values call = then (adjacency_rows m) (call_rows (count m) (long
 -- "a lattice and an accepted renumbering set it" (W-208), the mark that the lists ascend; a refused call leaves it, as it leaves mesh and data.
 unfoldable pub apply_vertex_permutation : Mesh → Bool → List Float → Call → RenumberOutcome
 apply_vertex_permutation m mark values call =
-    answer (renumber_rows m values call) (λ reason. record { answered = Refused reason; mesh = m; mark = mark; values = values })
+    answer (renumber_rows m values call) (λ reason. record { answered = Err reason; mesh = m; mark = mark; values = values })
     (record {
-      answered = Passed;
+      answered = Ok tt;
       mesh = renumbered_mesh call.permutation m;
       mark = true;
       values = renumbered_data (count m) call.permutation call.entries_per_vertex values;
@@ -96,4 +95,4 @@ scratch_of sources old_starts old_entries done held =
 
 -- A refused call leaves scratch as it was.
 abbrev pub KeptWhereRefused : Verdict → Scratch → Scratch → Type 0
-KeptWhereRefused verdict entry exit = (reason : Refusal) → verdict ≡ Refused reason → exit ≡ entry
+KeptWhereRefused verdict entry exit = (reason : Refusal) → verdict ≡ Err reason → exit ≡ entry

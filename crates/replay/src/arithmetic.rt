@@ -1,64 +1,47 @@
 // Arithmetic on doubles.
-use records::Cursor;
+use records::{Fault, Reader};
+use std::cmp::Ordering;
 
 // a, b, c; a * b + c.
-pub fn replay_mul_add(text: &[u8], start: usize) -> Cursor {
-    let mut operands = [0.0f64; 3];
-    let cursor = records::read_f64s(text, Cursor::new(start), &mut operands);
-    let result = c_api::arithmetic::koshirga_mul_add(operands[0], operands[1], operands[2]);
-    records::expect_f64(text, cursor, result)
+pub fn replay_mul_add(reader: &mut Reader) -> Result<(), Fault> {
+    let a = reader.take()?;
+    let b = reader.take()?;
+    let c = reader.take()?;
+    reader.expect(c_api::arithmetic::koshirga_mul_add(a, b, c))
 }
 
 // x; its root.
-pub fn replay_sqrt(text: &[u8], start: usize) -> Cursor {
-    let mut operands = [0.0f64; 1];
-    let cursor = records::read_f64s(text, Cursor::new(start), &mut operands);
-    records::expect_f64(text, cursor, c_api::arithmetic::koshirga_sqrt(operands[0]))
+pub fn replay_sqrt(reader: &mut Reader) -> Result<(), Fault> {
+    let x = reader.take()?;
+    reader.expect(c_api::arithmetic::koshirga_sqrt(x))
 }
 
-// Whether a signed number has this pattern in two's complement.
-fn has_pattern(n: i64, pattern: u64) -> bool {
-    if pattern < 0x8000_0000_0000_0000 {
-        return n == (pattern as i64);
-    }
-    let rest = 0xffff_ffff_ffff_ffff - pattern;
-    !n == (rest as i64)
-}
-
-// x; its floor, its ceiling, x as a signed 64-bit number, and what became of it there.
-pub fn replay_integral(text: &[u8], start: usize) -> Cursor {
-    let mut operands = [0.0f64; 1];
-    let cursor = records::read_f64s(text, Cursor::new(start), &mut operands);
-    let x = operands[0];
-    let behind_floor = records::expect_f64(text, cursor, c_api::arithmetic::koshirga_floor(x));
-    let behind_ceil = records::expect_f64(text, behind_floor, c_api::arithmetic::koshirga_ceil(x));
-    let whole = records::take(text, behind_ceil);
+// x; its floor, its ceiling, x as a signed 64-bit number in two's complement, and what became of it there.
+pub fn replay_integral(reader: &mut Reader) -> Result<(), Fault> {
+    let x = reader.take()?;
+    reader.expect(c_api::arithmetic::koshirga_floor(x))?;
+    reader.expect(c_api::arithmetic::koshirga_ceil(x))?;
     let converted = c_api::arithmetic::koshirga_to_i64(x);
-    let behind_whole = whole
-        .cursor()
-        .only_if(has_pattern(converted.whole, whole.value));
-    records::expect_u32(text, behind_whole, converted.how)
+    reader.expect(converted.whole.cast_unsigned())?;
+    reader.expect(converted.how)
 }
 
 // Two bit patterns; 0 where the first is below the second in the total order, 1 where they are the same, 2 where it is above.
-pub fn replay_total_order(text: &[u8], start: usize) -> Cursor {
-    let x = records::take(text, Cursor::new(start));
-    let y = records::take(text, x.cursor());
-    let order = c_api::arithmetic::koshirga_total_cmp(x.value, y.value);
-    let code: u64 = if order < 0 {
-        0
-    } else if order == 0 {
-        1
-    } else {
-        2
+pub fn replay_total_order(reader: &mut Reader) -> Result<(), Fault> {
+    let x = reader.take()?;
+    let y = reader.take()?;
+    let order = c_api::arithmetic::koshirga_total_cmp(x, y);
+    let code: u32 = match order.cmp(&0) {
+        Ordering::Less => 0,
+        Ordering::Equal => 1,
+        Ordering::Greater => 2,
     };
-    records::expect(text, y.cursor(), code)
+    reader.expect(code)
 }
 
 // Two numbers; the lesser of them, minimumNumber (IEEE 754-2019, 9.6).
-pub fn replay_minimum_number(text: &[u8], start: usize) -> Cursor {
-    let mut operands = [0.0f64; 2];
-    let cursor = records::read_f64s(text, Cursor::new(start), &mut operands);
-    let result = c_api::arithmetic::koshirga_minimum_number(operands[0], operands[1]);
-    records::expect_f64(text, cursor, result)
+pub fn replay_minimum_number(reader: &mut Reader) -> Result<(), Fault> {
+    let x = reader.take()?;
+    let y = reader.take()?;
+    reader.expect(c_api::arithmetic::koshirga_minimum_number(x, y))
 }

@@ -1,254 +1,91 @@
 // Both locators on the lattice of a frequency.
 ghost use Rattle.std.specs.Prelude.{◌<◌, ◌^◌};
 
-use crate::lengths::{take_grid_lengths, take_mesh_lengths};
-use crate::places::{F64_BEFORE, FACTOR, MARGIN, U16_BEFORE, U32_BEFORE};
+use crate::places::{F64_BEFORE, U16_BEFORE, U32_BEFORE};
 use crate::report::Tally;
-use crate::{meshes, queries, report};
-use c_api::BuildAnswer;
-use records::Cursor;
+use crate::slices::{Grid, GridSlices, MeshSlices, cut, expect_built};
+use crate::{queries, report};
+use records::{Fault, Reader};
 use std::io;
 use std::rt::Files;
 
 // A direction; the answers of both locators.
-fn direction(
-    text: &[u8],
-    start: usize,
-    frequency: u32,
-    ids: &[u16],
-    side: u32,
-    positions: &[f64],
-    cell_starts: &[u32],
-    cell_ids: &[u16],
-    triangle_starts: &[u32],
-    triples: &[u16],
-) -> Cursor {
-    let read = queries::read_direction(text, Cursor::new(start));
-    let v = read.direction;
-    let behind = queries::analytic_answers(text, read.behind, frequency, ids, v);
-    queries::grid_answers(
-        text,
-        behind,
-        positions,
-        side,
-        cell_starts,
-        cell_ids,
-        triangle_starts,
-        triples,
-        v,
-    )
+fn direction(reader: &mut Reader, frequency: u32, ids: &[u16], grid: Grid) -> Result<(), Fault> {
+    let v = queries::take_direction(reader)?;
+    queries::analytic_answers(reader, frequency, ids, v)?;
+    queries::grid_answers(reader, grid, v)
 }
 
-// The first record lengths with the builder's answer. Each record behind it is a direction.
-fn replay_records(
-    text: &[u8],
-    cursor: Cursor,
+// Each record behind the first is a direction.
+fn replay_directions(
+    first: Result<(), Fault>,
+    others: &[u8],
     frequency: u32,
     ids: &[u16],
-    answer: BuildAnswer,
-    positions: &[f64],
-    cell_starts: &[u32],
-    cell_ids: &[u16],
-    triangle_starts: &[u32],
-    triples: &[u16],
+    grid: Grid,
 ) -> Tally {
-    let side = answer.side;
-    let first = meshes::expect_built(text, cursor, answer);
-    let mut end = records::line_end(text, 0);
-    let mut tally = Tally::none().counted(first, end);
-    while end < text.len() {
-        let start = end + 1;
-        if start == text.len() {
-            break;
-        }
-        end = records::line_end(text, start);
-        let last = direction(
-            text,
-            start,
-            frequency,
-            ids,
-            side,
-            positions,
-            cell_starts,
-            cell_ids,
-            triangle_starts,
-            triples,
-        );
-        tally = tally.counted(last, end);
-    }
-    tally
+    Tally::default()
+        .counted(first)
+        .count_lines(others, |reader| direction(reader, frequency, ids, grid))
 }
 
-fn on_grid(
-    text: &[u8],
-    cursor: Cursor,
-    frequency: u32,
-    ids: &[u16],
-    positions: &[f64],
-    starts: &[u32],
-    entries: &[u16],
-    cell_starts: &mut [u32],
-    cell_ids: &mut [u16],
-    triangle_starts: &mut [u32],
-    triples: &mut [u16],
-) -> Tally {
-    let answer = c_api::grids::koshirga_build_grid(
-        positions,
-        starts,
-        entries,
-        cell_starts,
-        cell_ids,
-        triangle_starts,
-        triples,
-        FACTOR,
-        MARGIN,
-    );
-    replay_records(
-        text,
-        cursor,
-        frequency,
-        ids,
-        answer,
-        positions,
-        cell_starts,
-        cell_ids,
-        triangle_starts,
-        triples,
-    )
-}
-
-// Then the lengths of the grid's slices.
-fn cut_locators_grid(
-    text: &[u8],
-    cursor: Cursor,
-    frequency: u32,
-    ids: &[u16],
-    positions: &[f64],
-    starts: &[u32],
-    entries: &[u16],
-    cell_starts: &mut [u32],
-    cell_ids: &mut [u16],
-    triangle_starts: &mut [u32],
-    triples: &mut [u16],
-) -> Tally {
-    let lengths = take_grid_lengths(
-        text,
-        cursor,
-        cell_starts,
-        cell_ids,
-        triangle_starts,
-        triples,
-    );
-    let a_end = lengths.cell_starts;
-    let b_end = lengths.cell_ids;
-    let c_end = lengths.triangle_starts;
-    let d_end = lengths.triples;
-    on_grid(
-        text,
-        lengths.behind,
-        frequency,
-        ids,
-        positions,
-        starts,
-        entries,
-        &mut cell_starts[..a_end],
-        &mut cell_ids[..b_end],
-        &mut triangle_starts[..c_end],
-        &mut triples[..d_end],
-    )
-}
-
+// Then the lengths of the grid's slices, and the builder's answer.
 fn with_grid(
-    text: &[u8],
-    cursor: Cursor,
+    reader: &mut Reader,
+    others: &[u8],
     frequency: u32,
     ids: &[u16],
-    positions: &[f64],
-    starts: &[u32],
-    entries: &[u16],
-) -> Tally {
+    mesh: &MeshSlices,
+) -> Result<Tally, Fault> {
     let mut cell_starts = [U32_BEFORE; 5767];
     let mut cell_ids = [U16_BEFORE; 60000];
     let mut triangle_starts = [U32_BEFORE; 4003];
     let mut triples = [U16_BEFORE; 72000];
-    cut_locators_grid(
-        text,
-        cursor,
-        frequency,
-        ids,
-        positions,
-        starts,
-        entries,
+    let mut slices = GridSlices::cut(
+        reader,
         &mut cell_starts,
         &mut cell_ids,
         &mut triangle_starts,
         &mut triples,
-    )
+    )?;
+    let answer = slices.build(mesh);
+    let first = expect_built(reader, answer).and_then(|()| reader.finish());
+    let grid = slices.grid(mesh.positions, answer.side);
+    Ok(replay_directions(first, others, frequency, ids, grid))
 }
 
-// Then the lattice's refusal. The mark is lent and not recorded.
-fn on_lattice(
-    text: &[u8],
-    cursor: Cursor,
-    frequency: u32,
-    positions: &mut [f64],
-    starts: &mut [u32],
-    entries: &mut [u16],
-    ids: &mut [u16],
-) -> Tally {
-    let mut lists_ascend = false;
-    let refusal = c_api::lattices::koshirga_lattice(
-        frequency,
-        positions,
-        starts,
-        entries,
-        &mut lists_ascend,
-        ids,
-    );
-    let answered = records::expect_u32(text, cursor, refusal);
-    with_grid(text, answered, frequency, ids, positions, starts, entries)
-}
-
-// The first record begins with n and the lengths of the lattice's slices.
-fn cut_locators_lattice(
-    text: &[u8],
-    positions: &mut [f64],
-    starts: &mut [u32],
-    entries: &mut [u16],
-    ids: &mut [u16],
-) -> Tally {
-    let frequency = records::take_u32(text, Cursor::new(0));
-    let lengths = take_mesh_lengths(text, frequency.cursor(), positions, starts, entries);
-    let i = records::take_length(text, lengths.behind, ids.len());
-    let p_end = lengths.positions;
-    let s_end = lengths.starts;
-    let e_end = lengths.entries;
-    let i_end = i.places;
-    on_lattice(
-        text,
-        i.cursor(),
-        frequency.value,
-        &mut positions[..p_end],
-        &mut starts[..s_end],
-        &mut entries[..e_end],
-        &mut ids[..i_end],
-    )
-}
-
-fn with_lattice(text: &[u8]) -> Tally {
+// The first record begins with n, the lengths of the lattice's slices and the lattice's refusal. The mark is lent and not recorded.
+fn with_lattice(reader: &mut Reader, others: &[u8]) -> Result<Tally, Fault> {
     let mut positions = [F64_BEFORE; 12006];
     let mut starts = [U32_BEFORE; 4003];
     let mut entries = [U16_BEFORE; 24000];
     let mut ids = [U16_BEFORE; 4620];
-    cut_locators_lattice(text, &mut positions, &mut starts, &mut entries, &mut ids)
+    let frequency = reader.take()?;
+    let mut mesh = MeshSlices::cut(reader, &mut positions, &mut starts, &mut entries)?;
+    let ids = cut(reader, &mut ids)?;
+    let mut lists_ascend = false;
+    let refusal = mesh.lattice(frequency, &mut lists_ascend, ids);
+    reader.expect(refusal)?;
+    with_grid(reader, others, frequency, ids, &mesh)
+}
+
+// Without a lattice and a grid that the first record names nothing can be asked, and every record differs.
+fn replay_records(text: &[u8]) -> Tally {
+    let (first, others) = report::first_line(text);
+    match with_lattice(&mut Reader::new(first), others) {
+        Ok(tally) => tally,
+        Err(fault) => Tally::default()
+            .counted(Err(fault))
+            .count_lines(others, |_| Err(fault)),
+    }
 }
 
 fn replay_file_in<const ROOM: usize>(files: &impl Files, name: &str) -> Tally
     requires { ROOM < 2 ^ 32 }
 {
     let mut text = [0u8; ROOM];
-    let size = report::read_file(files, name, &mut text);
-    with_lattice(&text[..size])
+    let size = reading::read_file(files, name, &mut text);
+    replay_records(&text[..size])
 }
 
 fn replay_file(files: &impl Files, name: &str) -> Tally {

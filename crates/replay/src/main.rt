@@ -6,16 +6,15 @@ ghost use Rattle.std.specs.Prelude.{◌<◌, ◌^◌};
 
 mod arithmetic;
 mod lattices;
-mod lengths;
 mod locators;
-mod marks;
 mod meshes;
 mod places;
 mod queries;
 mod renumberings;
 mod report;
+mod slices;
 
-use records::Cursor;
+use records::{Fault, Reader};
 use report::Tally;
 use std::io;
 use std::rt::Files;
@@ -38,132 +37,139 @@ enum Kind {
     MinimumNumber,
 }
 
-const KINDS: u64 = 13;
-
-// The kinds are numbered from 0, in the order above. Right records are also read by these numbers, so that a wrong arm shows as differences.
-fn kind_of(number: u64) -> Kind {
-    match number {
-        0 => Kind::MulAdd,
-        1 => Kind::Sqrt,
-        2 => Kind::Integral,
-        3 => Kind::TotalOrder,
-        4 => Kind::FaceChoice,
-        5 => Kind::AnalyticQuery,
-        6 => Kind::Lattice,
-        7 => Kind::LatticeHash,
-        8 => Kind::GridHash,
-        9 => Kind::Mesh,
-        10 => Kind::Renumbering,
-        11 => Kind::GridQuery,
-        _ => Kind::MinimumNumber,
-    }
+// A file of records of one kind.
+#[derive(Clone, Copy)]
+struct File {
+    name: &'static str,
+    kind: Kind,
 }
 
-// The record that starts at a place: the cursor behind it, which is bad where something differs.
-fn replay_record(kind: Kind, text: &[u8], start: usize) -> Cursor {
+// A kind's number is its place here. Right records are also read by this table, so that a wrong kind shows as differences.
+static FILES: [File; 13] = [
+    File {
+        name: "mul_add",
+        kind: Kind::MulAdd,
+    },
+    File {
+        name: "sqrt",
+        kind: Kind::Sqrt,
+    },
+    File {
+        name: "integral",
+        kind: Kind::Integral,
+    },
+    File {
+        name: "total_order",
+        kind: Kind::TotalOrder,
+    },
+    File {
+        name: "face_choices",
+        kind: Kind::FaceChoice,
+    },
+    File {
+        name: "analytic_queries",
+        kind: Kind::AnalyticQuery,
+    },
+    File {
+        name: "lattices",
+        kind: Kind::Lattice,
+    },
+    File {
+        name: "lattice_hashes",
+        kind: Kind::LatticeHash,
+    },
+    File {
+        name: "grid_hashes",
+        kind: Kind::GridHash,
+    },
+    File {
+        name: "meshes",
+        kind: Kind::Mesh,
+    },
+    File {
+        name: "renumberings",
+        kind: Kind::Renumbering,
+    },
+    File {
+        name: "grid_queries",
+        kind: Kind::GridQuery,
+    },
+    File {
+        name: "minimum_number",
+        kind: Kind::MinimumNumber,
+    },
+];
+
+static LOCATORS: [&str; 5] = [
+    "locators_1",
+    "locators_2",
+    "locators_3",
+    "locators_7",
+    "locators_20",
+];
+
+// The record that a reader stands before.
+fn replay_record(kind: Kind, reader: &mut Reader) -> Result<(), Fault> {
     match kind {
-        Kind::MulAdd => arithmetic::replay_mul_add(text, start),
-        Kind::Sqrt => arithmetic::replay_sqrt(text, start),
-        Kind::Integral => arithmetic::replay_integral(text, start),
-        Kind::TotalOrder => arithmetic::replay_total_order(text, start),
-        Kind::FaceChoice => queries::face_choice(text, start),
-        Kind::AnalyticQuery => queries::analytic_query(text, start),
-        Kind::Lattice => lattices::lattice(text, start, false),
-        Kind::LatticeHash => lattices::lattice(text, start, true),
-        Kind::GridHash => lattices::lattice_with_grid(text, start),
-        Kind::Mesh => meshes::mesh(text, start),
-        Kind::Renumbering => renumberings::renumbering(text, start),
-        Kind::GridQuery => queries::grid_query(text, start),
-        Kind::MinimumNumber => arithmetic::replay_minimum_number(text, start),
+        Kind::MulAdd => arithmetic::replay_mul_add(reader),
+        Kind::Sqrt => arithmetic::replay_sqrt(reader),
+        Kind::Integral => arithmetic::replay_integral(reader),
+        Kind::TotalOrder => arithmetic::replay_total_order(reader),
+        Kind::FaceChoice => queries::face_choice(reader),
+        Kind::AnalyticQuery => queries::analytic_query(reader),
+        Kind::Lattice => lattices::lattice(reader, false),
+        Kind::LatticeHash => lattices::lattice(reader, true),
+        Kind::GridHash => lattices::lattice_with_grid(reader),
+        Kind::Mesh => meshes::mesh(reader),
+        Kind::Renumbering => renumberings::renumbering(reader),
+        Kind::GridQuery => queries::grid_query(reader),
+        Kind::MinimumNumber => arithmetic::replay_minimum_number(reader),
     }
-}
-
-fn replay_lines(kind: Kind, text: &[u8]) -> Tally {
-    let mut tally = Tally::none();
-    let mut start = 0;
-    while start < text.len() {
-        let end = records::line_end(text, start);
-        let cursor = replay_record(kind, text, start);
-        tally = tally.counted(cursor, end);
-        if end >= text.len() {
-            break;
-        }
-        start = end + 1;
-    }
-    tally
 }
 
 // Room for a text is a parameter: a proof about a number this large would list as many bytes.
-fn replay_in<const ROOM: usize>(
-    rt: &(impl Files + Print),
-    name: &str,
-    number: u64,
-) -> io::Result<()>
+fn replay_in<const ROOM: usize>(rt: &(impl Files + Print), file: File) -> io::Result<()>
     requires { ROOM < 2 ^ 32 }
 {
     let mut text = [0u8; ROOM];
-    let size = report::read_file(rt, name, &mut text);
-    let tally = replay_lines(kind_of(number), &text[..size]);
-    report::print_differences(rt, name, tally)
+    let size = reading::read_file(rt, file.name, &mut text);
+    let kind = file.kind;
+    let tally = Tally::default().count_lines(&text[..size], |reader| replay_record(kind, reader));
+    report::print_differences(rt, file.name, tally)
 }
 
-fn replay(rt: &(impl Files + Print), name: &str, number: u64) -> io::Result<()> {
-    replay_in::<524288>(rt, name, number)
+fn replay(rt: &(impl Files + Print), file: File) -> io::Result<()> {
+    replay_in::<524288>(rt, file)
 }
 
 // ---- records that are wrong on purpose
 
-// A record behind the number of its kind. Without such a number nothing is compared, and the cursor stands at the line's end as if nothing differed.
-fn replay_numbered(text: &[u8], start: usize, end: usize) -> Cursor {
-    let number = records::take(text, Cursor::new(start));
-    if number.good & (number.value < KINDS) {
-        return replay_record(kind_of(number.value), text, number.at);
+// A record behind the number of its kind. Without such a number nothing is compared, and the line passes as if nothing differed.
+fn replay_numbered(reader: &mut Reader) -> Result<(), Fault> {
+    if let Ok(number) = reader.take::<u32>()
+        && let Some(file) = FILES.get(number as usize)
+    {
+        return replay_record(file.kind, reader);
     }
-    Cursor::new(end)
-}
-
-fn replay_numbered_lines(text: &[u8]) -> Tally {
-    let mut tally = Tally::none();
-    let mut start = 0;
-    while start < text.len() {
-        let end = records::line_end(text, start);
-        let cursor = replay_numbered(text, start, end);
-        tally = tally.counted(cursor, end);
-        if end >= text.len() {
-            break;
-        }
-        start = end + 1;
-    }
-    tally
+    reader.skip_line();
+    Ok(())
 }
 
 // A small buffer: the compiler may put it into main's frame, which lies under every other call's.
 fn replay_wrong(rt: &(impl Files + Print), name: &str) -> io::Result<()> {
     let mut text = [0u8; 16384];
-    let size = report::read_file(rt, name, &mut text);
-    let tally = replay_numbered_lines(&text[..size]);
+    let size = reading::read_file(rt, name, &mut text);
+    let tally = Tally::default().count_lines(&text[..size], replay_numbered);
     report::print_noticed(rt, name, tally)
 }
 
 fn main(rt: HostRuntime) -> io::Result<()> {
-    replay(&rt, "mul_add", 0)?;
-    replay(&rt, "sqrt", 1)?;
-    replay(&rt, "integral", 2)?;
-    replay(&rt, "total_order", 3)?;
-    replay(&rt, "face_choices", 4)?;
-    replay(&rt, "analytic_queries", 5)?;
-    replay(&rt, "lattices", 6)?;
-    replay(&rt, "lattice_hashes", 7)?;
-    replay(&rt, "grid_hashes", 8)?;
-    replay(&rt, "meshes", 9)?;
-    replay(&rt, "renumberings", 10)?;
-    replay(&rt, "grid_queries", 11)?;
-    replay(&rt, "minimum_number", 12)?;
-    locators::replay_locators(&rt, "locators_1")?;
-    locators::replay_locators(&rt, "locators_2")?;
-    locators::replay_locators(&rt, "locators_3")?;
-    locators::replay_locators(&rt, "locators_7")?;
-    locators::replay_locators(&rt, "locators_20")?;
+    for file in &FILES {
+        replay(&rt, *file)?;
+    }
+    for name in &LOCATORS {
+        locators::replay_locators(&rt, name)?;
+    }
     replay_wrong(&rt, "wrong_records")?;
     locators::replay_wrong_locators(&rt, "wrong_locators")
 }

@@ -1,62 +1,60 @@
 // Counts of records, and the line that a file gets.
-ghost use Rattle.std.specs.Prelude.{◌≤◌, ◌≡◌, length, take};
-
-use records::Cursor;
+use records::{Fault, Reader};
 use std::io;
-use std::rt::Files;
 
-// The first record that differs and the first that does not are remembered by their numbers, which are their lines'; 0 where there is none.
-#[derive(Clone, Copy)]
+// The first record that differs and the first that does not are remembered by their numbers, which are their lines'.
+#[derive(Clone, Copy, Default)]
 pub struct Tally {
     pub records: u64,
     pub differences: u64,
-    pub first_different: u64,
-    pub first_same: u64,
-}
-
-fn first(before: u64, number: u64) -> u64 {
-    if before == 0 {
-        return number;
-    }
-    before
+    pub first_different: Option<u64>,
+    pub first_same: Option<u64>,
 }
 
 impl Tally {
-    pub fn none() -> Self {
-        Tally {
-            records: 0,
-            differences: 0,
-            first_different: 0,
-            first_same: 0,
-        }
-    }
-
-    // One record more, with the cursor behind it. A record ends where its line does.
-    pub fn counted(self, cursor: Cursor, end: usize) -> Self {
-        let records = std::num::wrapping_add_u64(self.records, 1);
-        if cursor.good & (cursor.at == end) {
-            return Tally {
+    // One record more, and what came of it.
+    pub fn counted(self, outcome: Result<(), Fault>) -> Self {
+        let records = self.records.wrapping_add(1);
+        match outcome {
+            Ok(()) => Tally {
                 records,
                 differences: self.differences,
                 first_different: self.first_different,
-                first_same: first(self.first_same, records),
-            };
+                first_same: self.first_same.or(Some(records)),
+            },
+            Err(_) => Tally {
+                records,
+                differences: self.differences.wrapping_add(1),
+                first_different: self.first_different.or(Some(records)),
+                first_same: self.first_same,
+            },
         }
-        Tally {
-            records,
-            differences: std::num::wrapping_add_u64(self.differences, 1),
-            first_different: first(self.first_different, records),
-            first_same: self.first_same,
+    }
+
+    // Each line of a text is a record, which ends where its line does.
+    pub fn count_lines<F: FnMut(&mut Reader) -> Result<(), Fault>>(
+        self,
+        text: &[u8],
+        mut replay: F,
+    ) -> Self
+        requires { F.IsAlwaysCallable replay }
+    {
+        let mut tally = self;
+        for line in text.split_inclusive(|byte| *byte == b'\n') {
+            let mut reader = Reader::new(line);
+            let outcome = replay(&mut reader);
+            tally = tally.counted(outcome.and_then(|()| reader.finish()));
         }
+        tally
     }
 }
 
-// How many bytes were read. A file that is missing has none, and one that is too long is cut, which leaves its last record incomplete.
-pub fn read_file(files: &impl Files, name: &str, text: &mut [u8]) -> usize
-    ensures in_bounds { result ≤ length text.new }
-    ensures prefix { result ≡ length (take result text.new) }
-{
-    reading::read_file(files, name, text)
+// The first line of a text, and the others.
+pub fn first_line(text: &[u8]) -> (&[u8], &[u8]) {
+    match text.iter().position(|byte| *byte == b'\n') {
+        Some(place) => text.split_at(place + 1),
+        None => text.split_at(text.len()),
+    }
 }
 
 fn print_counts(rt: &impl Print, name: &str, tally: Tally, noun: &str) -> io::Result<()> {
@@ -66,8 +64,8 @@ fn print_counts(rt: &impl Print, name: &str, tally: Tally, noun: &str) -> io::Re
     )
 }
 
-fn print_first(rt: &impl Print, words: &str, line: u64) -> io::Result<()> {
-    if line > 0 {
+fn print_first(rt: &impl Print, words: &str, line: Option<u64>) -> io::Result<()> {
+    if let Some(line) = line {
         print!(rt; ", {words} in line {line}")?;
     }
     println!(rt; "")

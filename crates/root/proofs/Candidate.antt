@@ -1,14 +1,10 @@
 -- A candidate for the root of x * 2 ^ 44 that passes the test: none of the differences wrapped, so it is the root. Assumes nothing.
-use Rattle.std.proofs.Common.{◌≡◌, ℕ, ◌+◌, ◌*◌, ◌%◌, ◌^◌, ◌<◌, ◌≤◌, true, ◌&&◌, T, ltb, leb, sym, ◌∙◌, subst, mul_assoc, mul_comm, add-mul, mul-le-mul, mul-add, mul_left_comm, arith, ltb→lt, leb→le}
+use Rattle.std.proofs.Common.{◌≡◌, ℕ, ◌+◌, ◌-◌, ◌*◌, ◌%◌, ◌^◌, ◌<◌, ◌≤◌, true, ◌&&◌, T, ltb, leb, sym, ◌∙◌, subst, mul_assoc, mul_comm, add-mul, mul-le-mul, mul-add, mul_left_comm, arith, ltb→lt, leb→le}
 use lib.Ieee.Fits.{and_l, and_r}
 use Rattle.words.proofs.Product.{mul_lt}
 
 square_of_sum : (a b : ℕ) → (a + b) * (a + b) ≡ a * a + 2 * (a * b) + b * b
 square_of_sum a b = simp (add-mul, mul-add, mul_assoc, mul_comm, mul_left_comm) (omega arith)
-
--- a product of two words' halves fits a word
-pub halves_fit : (a b : ℕ) → a < 2 ^ 32 → b < 2 ^ 32 → a * b < 2 ^ 64
-halves_fit a b p q = mul_lt p q
 
 -- the root is at most one more than the candidate p, so what p leaves is small
 small_remainder : (p q m n : ℕ) → q ≤ p + 1 → q * q + n ≡ p * p + m → n ≤ 2 * q → m ≤ 4 * p + 3
@@ -44,3 +40,7 @@ candidate_accepted x h l rest left m q n big H L e f g near same test =
     let hl : h * l < 2 ^ 58 = mul_lt H L in
     let ll : l * l < 2 ^ 52 = mul_lt L L in
     (n-le, same ∙ square_and_remainder x h l rest left m (omega arith) (omega arith) (omega arith))
+
+-- a difference that may wrap, of a word and a product
+pub wrapped : (x p q d : ℕ) → x < 2 ^ 64 → p < 2 ^ 64 → p ≡ q → d ≡ (x + (2 ^ 64 - p)) % 2 ^ 64 → (d + q) % 2 ^ 64 ≡ x
+wrapped x p q d l m e f = omega arith

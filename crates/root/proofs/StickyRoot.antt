@@ -1,5 +1,5 @@
 -- The digits of a root, with a sticky bit where a remainder is left, round as the root itself. Assumes nothing.
-use Rattle.std.proofs.Common.{◌≡◌, ℕ, ◌+◌, ◌*◌, ◌/◌, ◌%◌, ◌^◌, ◌<◌, ◌≤◌, Bool, true, false, cond, T, eqb, ◌⊎◌, sym, refl, ap, ◌∙◌, inl, inr, le_trans, le_of_eq, lt_of_lt_of_le, le-add_right, lt_of_le_of_lt, add-zero, mul-le-mul_right, mul_assoc, mul_comm, add-mul, mul-lt-mul_of_pos_right, mul-pos, div-add-mod', mul-add, mul-div_cancel, mul_left_comm, arith, eqb→eq, pow_pos, pow-add}
+use Rattle.std.proofs.Common.{◌≡◌, ℕ, ◌+◌, ◌*◌, ◌/◌, ◌%◌, ◌^◌, ◌<◌, ◌≤◌, Bool, true, false, cond, T, eqb, sym, refl, ap, ◌∙◌, le_trans, le_of_eq, lt_of_lt_of_le, le-add_right, lt_of_le_of_lt, add-zero, mul-le-mul_right, mul_assoc, mul_comm, add-mul, mul-lt-mul_of_pos_right, mul-pos, div-add-mod', mul-add, mul-div_cancel, mul_left_comm, arith, eqb→eq, pow_pos, pow-add}
 use native.Mathlib.Nat.{eq_of_mul-eq-mul_right, mul-mul-mul_comm, mul-mod_left, div-eq_of_lt-le, div-div-eq-div-mul, mul-div-mul_right}
 use lib.Pow.{high, low}
 use lib.Ieee.{binary64, size, round}
@@ -139,26 +139,11 @@ pub significand_lt : (q m w : ℕ) → q * q + m ≡ w * 2 ^ 44 → w < 2 ^ 64 �
 significand_lt q m w e l = square_lt_back q (2 ^ 54) (let k : q * q < 2 ^ 54 * 2 ^ 54 = omega arith in k)
 
 -- s is the sticky bit of the remainder m
-abbrev pub StickyBit : ℕ → ℕ → Type 0
-StickyBit m s = ((m ≡ 0) × (s ≡ 0)) ⊎ ((m ≡ 0 → ⊥) × (s ≡ 1))
-
-pub sticky_root_lt : (m s : ℕ) → StickyBit m s → s < 2 ^ 10
-sticky_root_lt m s (inl (z, e)) = omega arith
-sticky_root_lt m s (inr (z, e)) = omega arith
-
-sticky_zero : (m s : ℕ) → StickyBit m s → m ≡ 0 → s ≡ 0
-sticky_zero m s (inl (z, e)) h = e
-sticky_zero m s (inr (z, e)) h = absurd (z h)
-
-zero_sticky : (m s : ℕ) → StickyBit m s → s ≡ 0 → m ≡ 0
-zero_sticky m s (inl (z, e)) h = z
-zero_sticky m s (inr (z, e)) h = absurd (omega arith)
-
-pub word_rounds : (q m w h s : ℕ) → m ≤ 2 * q → q * q + m ≡ w * 2 ^ 44 → 2 ^ 62 ≤ w → StickyBit m s
+pub word_rounds : (q m w h s : ℕ) → m ≤ 2 * q → q * q + m ≡ w * 2 ^ 44 → 2 ^ 62 ≤ w → s ≤ 1 → (m ≡ 0 → s ≡ 0) → (s ≡ 0 → m ≡ 0)
     → round binary64 false ((q * 2 ^ 10 + s) * 2 ^ (h + 1739)) (2 ^ high_word_scale) ≡ scaled_root binary64 (w * 2 ^ (2 * h + 1010))
 unfolding radicand
-word_rounds q m w h s le e l bit =
-    root_rounds q m (w * 2 ^ 44) (2 ^ (h + 483)) le e (pow_pos (h + 483)) h s refl (full_significand q m w le e l) (sticky_root_lt m s bit) (sticky_zero m s bit) (zero_sticky m s bit) ∙ ap (scaled_root binary64) scaled
+word_rounds q m w h s le e l short none some =
+    root_rounds q m (w * 2 ^ 44) (2 ^ (h + 483)) le e (pow_pos (h + 483)) h s refl (full_significand q m w le e l) (omega (arith, short)) none some ∙ ap (scaled_root binary64) scaled
   where
     scaled : w * 2 ^ 44 * (2 ^ (h + 483) * 2 ^ (h + 483)) ≡ w * 2 ^ (2 * h + 1010)
     scaled =

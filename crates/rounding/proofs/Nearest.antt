@@ -1,15 +1,13 @@
 -- `closest a b`, the whole number nearest to a / b, a tie to the even one (IEEE 754-2019, 4.3.1). Sticky-equivalent numbers have the same one, where the unit of the equivalence divides half of b.
--- And it is had by one addition. Assumes nothing.
+-- Assumes nothing.
 use mathlib.Core.Path.{◌≡◌, refl, sym, ap, ◌∙◌}
-use mathlib.Core.Logic.{inl, inr}
-use Prim.Native.Nat.{ℕ, zero, suc, ◌+◌, ◌-◌, ◌*◌, ◌/◌, ◌%◌, ◌≤◌, ◌<◌, compare, Ordering}
-use native.Mathlib.Nat.{le_trans, le_of_eq, mul_comm, mul_assoc, mul-le-mul_right, mul-pos, mod-lt, div-div-eq-div-mul, div-eq_of_lt, suc-mul, one-mul}
+use Prim.Native.Nat.{ℕ, zero, suc, ◌+◌, ◌*◌, ◌/◌, ◌%◌, ◌≤◌, ◌<◌, compare, Ordering}
+use native.Mathlib.Nat.{le_trans, le_of_eq, mul_comm, mul_assoc, mul-le-mul_right, mul-pos, mod-lt, div-div-eq-div-mul, suc-mul}
 use native.Mathlib.Omega.{arith}
-use lib.Arith.{mod-mul, digits_div}
+use lib.Arith.{mod-mul}
 use lib.Ieee.{nearest}
 use lib.Ieee.Nearest.{closest}
 use Rattle.words.specs.Sticky.{StickyEquivalent}
-use Rattle.words.proofs.Order.{lt_or_le}
 use Rattle.rounding.proofs.Compare.{Compares, compare_holds, compare_unique}
 
 -- ---- q units and a rest r, which is less than a unit, compared with c units
@@ -67,23 +65,3 @@ closest_sticky u c d n t U C D sticky =
     ∙ ap (λ (z : ℕ). by_units z (n % (d * u)) c) sticky.quotient
     ∙ ap (λ (o : Ordering). nearest (t / u / (c * 2)) o) (same_rest (compare (t / u % (c * 2)) c) (n % (d * u)) (t % u) sticky.exact sticky.only_exact)
     ∙ sym (closest_by_units t u c U C)
-
--- ---- by one addition: half a unit less 1, and the last bit kept, carry where the rest is above a half, or at a half with an odd quotient
-carry_none : (q u s : ℕ) → s < u → q ≡ q + s / u
-carry_none q u s h = (let k : q ≡ q + 0 = omega arith in k) ∙ ap (λ (z : ℕ). q + z) (sym (div-eq_of_lt h))
-
-carry_one : (q u s : ℕ) → u ≤ s → s < u + u → suc q ≡ q + s / u
-carry_one q u s g h =
-    (let k : suc q ≡ q + 1 = omega arith in k)
-    ∙ ap (λ (z : ℕ). q + z) (sym (ap (λ (z : ℕ). z / u) (let k : s ≡ 1 * u + (s - u) = let o = one-mul u in omega arith in k) ∙ digits_div 1 (let k : s - u < u = omega arith in k)))
-
-by_addition : (o : Ordering) (q r u half : ℕ) → u ≡ half + half → r < u → Compares o (r * 2) u → nearest q o ≡ q + (r + (half - 1) + q % 2) / u
-by_addition Ordering.lt q r u half e l h = carry_none q u (r + (half - 1) + q % 2) (omega arith)
-by_addition Ordering.gt q r u half e l h = carry_one q u (r + (half - 1) + q % 2) (omega arith) (omega arith)
-by_addition Ordering.eq q r u half e l h = elim (lt_or_le (q % 2) 1) [
-  | inl even ↦ (let k : q + q % 2 ≡ q = omega arith in k) ∙ carry_none q u (r + (half - 1) + q % 2) (omega arith)
-  | inr odd ↦ (let k : q + q % 2 ≡ suc q = omega arith in k) ∙ carry_one q u (r + (half - 1) + q % 2) (omega arith) (omega arith)
-]
-
-pub closest_by_addition : (a u half : ℕ) → 0 < u → u ≡ half + half → a / u + (a % u + (half - 1) + a / u % 2) / u ≡ closest a u
-closest_by_addition a u half U e = sym (by_addition (compare (a % u * 2) u) (a / u) (a % u) u half e (mod-lt a U) (compare_holds (a % u * 2) u))

@@ -20,63 +20,65 @@ pub fn is_finite(x: f64) -> bool
     x - x == 0.0
 }
 
-// The value significand * 2^exponent / 2^1074, with its sign.
+// The value significand * 2^exponent / 2^1074, with its sign. The ranges are those of binary64 (IEEE 754-2019, 3.4).
 #[derive(Clone, Copy)]
 pub struct Unpacked {
     pub negative: bool,
     pub significand: u64,
     pub exponent: u64,
+    pub ghost significand_in_range: { significand < 2 ^ 53 },
+    pub ghost exponent_in_range: { exponent < 2046 },
 }
 
 // A subnormal has the exponent of the least normal values, and no leading bit.
 pub fn unpack(x: f64) -> Unpacked
     requires { T (finite x) }
-    ensures { HasValue x result.negative (result.significand * 2 ^ result.exponent) (2 ^ unpacked_scale) × (result.significand < 2 ^ 53) × (result.exponent < 2046) }
+    ensures { HasValue x result.negative (result.significand * 2 ^ result.exponent) (2 ^ unpacked_scale) }
 {
-    let bits = f64::to_bits(x);
+    let bits = x.to_bits();
     let negative = 0x8000_0000_0000_0000 <= bits;
     let field = bits % 0x8000_0000_0000_0000 / 0x10_0000_0000_0000;
     let fraction = bits % 0x10_0000_0000_0000;
     if field == 0 {
-        Unpacked {
+        return Unpacked {
             negative,
             significand: fraction,
             exponent: 0,
-        }
-    } else {
-        Unpacked {
-            negative,
-            significand: 0x10_0000_0000_0000 + fraction,
-            exponent: field - 1,
-        }
+        };
+    }
+    Unpacked {
+        negative,
+        significand: 0x10_0000_0000_0000 + fraction,
+        exponent: field - 1,
     }
 }
 
-// The value significand * 2^exponent / 2^1138.
+// The value significand * 2^exponent / 2^1138, its significand at the top of the word.
 #[derive(Clone, Copy)]
 pub struct NormalisedSignificand {
     pub significand: u64,
     pub exponent: u64,
+    pub ghost top_bit: { 2 ^ 63 ≤ significand },
+    pub ghost last_bits: { significand % 2048 ≡ 0 },
+    pub ghost exponent_in_range: { exponent < 2100 },
 }
 
 // An unpacked significand brought to its top bit: that of a normal value by 11, and that of a
 // subnormal one by the count of its leading zeros.
-pub fn normalise_significand(significand: u64, exponent: u64) -> NormalisedSignificand
-    requires fact_1 { 0 < significand }
-    requires fact_2 { significand < 2 ^ 53 }
-    requires fact_3 { exponent < 2046 }
-    ensures { (result.significand * 2 ^ result.exponent ≡ significand * 2 ^ exponent * 2 ^ 64) × (2 ^ 63 ≤ result.significand) × (result.significand % 2048 ≡ 0) × (result.exponent < 2100) }
+pub fn normalise_significand(x: Unpacked) -> NormalisedSignificand
+    requires { 0 < x.significand }
+    ensures { result.significand * 2 ^ result.exponent ≡ x.significand * 2 ^ x.exponent * 2 ^ 64 }
 {
-    if significand >= 0x10_0000_0000_0000 {
+    if x.significand >= 0x10_0000_0000_0000 {
         return NormalisedSignificand {
-            significand: significand << 11,
-            exponent: exponent + 53,
+            significand: x.significand << 11,
+            exponent: x.exponent + 53,
         };
     }
-    let zeros = u64::leading_zeros(significand) as u64;
+    let zeros = x.significand.leading_zeros() as u64;
     NormalisedSignificand {
-        significand: significand << zeros,
-        exponent: exponent + 64 - zeros,
+        significand: x.significand << zeros,
+        exponent: x.exponent + 64 - zeros,
     }
 }
 
@@ -136,8 +138,8 @@ pub fn round_and_pack_word(negative: bool, significand: u64, exponent: u64) -> f
 // significand * 2^exponent / 2^2276 rounded (IEEE 754-2019, 4.3.1), for a significand of two words
 // above 0. It is brought to its top bit first.
 pub fn round_and_pack(negative: bool, significand: TwoWords, exponent: u64) -> f64
-    requires fact_1 { 0 < value significand }
-    requires fact_2 { exponent < 2 ^ 32 }
+    requires nonzero { 0 < value significand }
+    requires exponent_in_range { exponent < 2 ^ 32 }
     ensures { result ≡ round binary64 negative (value significand * 2 ^ exponent) (2 ^ product_scale) }
 {
     let normalised = words::normalise_words(significand);

@@ -1,4 +1,5 @@
 pub mod Range
+pub mod Ranges
 pub mod Tabulate
 pub mod Starts
 pub mod Permutation

@@ -1,7 +1,7 @@
 -- Laws of permutations, inverses and moves. Assumes nothing.
 -- The test: `is_permutation_sound`, `is_permutation_complete`; its loop: `marks_none`, `marks_step`, `marks_all`, and `refused_length`, `refused_range`, `refused_repeat`.
 -- A permutation as a function with its inverse: `permutation_bijection`; composed, turned round: `bijection_compose`, `bijection_flip`.
--- The inverse: `inverse_unique`; its loop: `inverting_none`, `inverting_step`, `inverting_all`.
+-- The inverse: `inverse_unique`; the end of its loop: `inverting_all`.
 -- Lists of ids renumbered: `relabelled_at`, `relabelled_nondecreasing`, `relabelled_total`, `relabelled_compose`.
 -- A moved list: read by `moved_blocks_at` (and `moved_at`), recognised by `moved_blocks_unique`, repeated by `moved_blocks_compose`.
 use Prim.Native.Nat.{ℕ, zero, suc, ◌+◌, ◌*◌, ◌≤◌, ◌<◌}
@@ -14,8 +14,8 @@ use mathlib.Core.Bool.{Bool, true, false, not, cond}
 use mathlib.Core.List.Memᴰ
 use mathlib.Core.List.{List, [], ◌∷◌, map, map-id, map-map, Memᴰ}
 use lib.Dec.{ltb, eqb}
-use lib.ListN.{length, get_or, set, length-set, length-map}
-use lib.Seq.{ext_get_or, get_or-set_same, get_or-set_other}
+use lib.ListN.{length, get_or, length-map}
+use lib.Seq.{ext_get_or}
 use borrow.Author.Tests.{ltb-true, eqb-true, eqb-false, not-true, eq-eqb, ne_eqb, lt-ltb, le-ltb}
 use Rattle.booleans.proofs.Booleans.{and_split, and_intro, and_right_fails}
 use Rattle.sequences.specs.Range.{all_below, sum_below, Updated}
@@ -212,20 +212,6 @@ module _ {n : ℕ} {q : List ℕ} (h : IsPermutation n q) where
       ap (at b) (sym (permutation_bijection.right_inverse i k)) ∙ back (at (inverse q) i) (permutation_bijection.inverse_maps i k))
 
   -- ---- the loop that writes it
-  pub inverting_none : {old : List ℕ} → Inverting n q old old 0
-  inverting_none = record { same_length = refl; inverted = λ u lt. absurd (not-suc-le-zero lt); untouched = λ i le. refl }
-
-  pub inverting_step : {old now : List ℕ} {v : ℕ} → n ≤ length old → v < n → Inverting n q old now v → Inverting n q old (set now (at q v) v) (v + 1)
-  inverting_step {old} {now} {v} room lt r = record {
-    same_length = length-set now (at q v) v ∙ r.same_length;
-    inverted = λ u lu. go u (last_or_below u v (omega arith));
-    untouched = λ i le. get_or-set_other now (at q v) i v 0 (λ e. let k = h.below v lt in omega arith) ∙ r.untouched i le;
-  }
-    where
-      go : (u : ℕ) → (u ≡ v) ⊎ (u < v) → at (set now (at q v) v) (at q u) ≡ u
-      go u (inl s) = ap (λ (z : ℕ). at (set now (at q v) v) (at q z)) s ∙ get_or-set_same now (at q v) v 0 (let k = h.below v lt in omega (arith, r.same_length)) ∙ sym s
-      go u (inr l) = get_or-set_other now (at q v) (at q u) v 0 (λ e. let k = h.injective u v (omega arith) lt e in omega arith) ∙ r.inverted u l
-
   pub inverting_all : {old now : List ℕ} {v : ℕ} → n ≤ length old → n ≤ v → Inverting n q old now v → now ≡ overwrite (inverse q) old
   inverting_all {old} {now} {v} room le r =
       ext_get_or 0 now (overwrite (inverse q) old) (r.same_length ∙ sym (length_overwrite (inverse q) old (omega (arith, length_inverse)))) (λ i lt. each i (dec_lt i n))

@@ -1,7 +1,7 @@
 -- Laws of lists given by index, of blocks, and of loops that write from the front. Assumes nothing.
 -- To show that a list is a table: `tabulate_unique`. To read a table: `tabulate_at`, `length_tabulate`. Two lists are equal by their elements: the library's `ext_get_or`.
 -- A loop that fills place k at turn k: `overwritten_none`, `overwritten_set` at each turn, `overwritten_all` at the end (the surplus is untouched), `overwritten_whole` where there is none.
--- Cleared marks: `cleared_unmarked`. A store of a whole block: `updated_by_sets`; for a vector `updated_by_three`.
+-- A store of a whole block: `updated_by_sets`; for a vector `updated_by_three`.
 use Prim.Native.Nat.{ℕ, zero, suc, ◌+◌, ◌-◌, ◌*◌, ◌≤◌, ◌<◌}
 use native.Mathlib.Nat.{not-suc-le-zero, le_of_suc-le-suc, mul-le-mul_right}
 use native.Mathlib.Omega.{arith}
@@ -13,9 +13,9 @@ use mathlib.Core.Bool.{false}
 use mathlib.Core.List.{List, [], ◌∷◌, ◌++◌, map, append-nil, append_assoc, Memᴰ}
 use lib.ListN.{length, get_or, set, take, drop, length-append, length-drop, length-set, get_or-append, drop_of_length-le}
 use lib.Seq.{ext_get_or, get_or-append-add, get_or-take, get_or-drop, drop-drop, length-take-le, get_or-set_same, get_or-set_other, take_at, drop_at, slice, sets, take-nil}
-use Rattle.sequences.specs.Range.{Updated, nonzero_at}
+use Rattle.sequences.specs.Range.{Updated}
 use Rattle.sequences.specs.Tabulate.{tabulate, block, overwrite, Overwritten}
-use Rattle.sequences.proofs.Range.{last_or_below, zero_unmarked}
+use Rattle.sequences.proofs.Range.{last_or_below}
 
 module _ {A : Type 0} where
   -- ---- tables
@@ -221,7 +221,3 @@ module _ {A B : Type 0} where
   get_d_map f [] i d e h = absurd (not-suc-le-zero h)
   get_d_map f (x ∷ xs) zero d e h = refl
   get_d_map f (x ∷ xs) (suc i) d e h = get_d_map f xs i d e (le_of_suc-le-suc h)
-
--- marks after they were cleared
-pub cleared_unmarked : (n : ℕ) (old now : List ℕ) → now ≡ overwrite (tabulate n (λ i. 0)) old → (i : ℕ) → i < n → nonzero_at now i ≡ false
-cleared_unmarked n old now e i lt = zero_unmarked now i (ap (λ (l : List ℕ). get_or l i 0) e ∙ overwrite_tabulate_at n (λ i. 0) old i 0 lt)

@@ -1,14 +1,12 @@
 -- Rows 5 and 9 of document 01's table of refusals. Definitions only.
-use Rattle.std.specs.Prelude.{Bool, false, ◌&&◌, pos, negsuc, Float}
+use Rattle.std.specs.Prelude.{Bool, false, ◌&&◌, pos, negsuc, Float, Result, Ok, Err}
 use Rattle.std.specs.Float.{fin}
 use Rattle.std.specs.Float.Ieee.{le}
 use Rattle.std.specs.Float.Ieee.Scale.{finite}
-use Rattle.refusal.specs.declared.Verdict.{Verdict}
-use Rattle.refusal.specs.declared.Verdict.TheVariants.{Passed}
-use Rattle.refusal.specs.Refusal.{refusal, row, answer}
+use Rattle.refusal.specs.declared.Refusal.{Refusal}
+use Rattle.refusal.specs.declared.Refusal.TheVariants.{Direction}
+use Rattle.refusal.specs.Refusal.{Verdict, row, answer}
 use Rattle.vector.specs.declared.Vector3.{Vector3}
-use Rattle.vector.specs.declared.Direction.{Direction}
-use Rattle.vector.specs.declared.Direction.TheVariants.{Refused, Accepted}
 use Rattle.vector.specs.Vector.{squared_length}
 
 -- 2 ^ -40 and 2 ^ 40
@@ -26,9 +24,9 @@ admissible v =
 
 -- Row 9, and then the next rows.
 abbrev pub direction_row : Vector3 → Verdict → Verdict
-direction_row v next = row (admissible v) (refusal 9) next
+direction_row v next = row (admissible v) Direction next
 
 -- A direction that passes row 9, or that row's refusal.
-unfoldable pub direction_of : Vector3 → Direction
+unfoldable pub direction_of : Vector3 → Result Vector3 Refusal
 unfolding admissible
-direction_of v = answer (direction_row v Passed) Refused (Accepted v)
+direction_of v = answer (direction_row v (Ok tt)) Err (Ok v)

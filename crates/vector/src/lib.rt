@@ -2,16 +2,17 @@
 // (IEEE 754-2019, 4.3.1).
 #![tactic(auto)]
 
-ghost use Rattle.std.specs.Prelude.{◌≡◌};
+ghost use Rattle.std.specs.Prelude.{◌≡◌, ⊤};
 ghost use Rattle.vector.specs.Vector.{vector, zero_vector, dot_product, cross_product, vector_difference, vector_sum, vector_multiple, vector_quotient, squared_length, length_of, normalized};
 ghost use Rattle.vector.specs.Triangle.{weights};
 ghost use Rattle.vector.specs.Direction.{admissible, direction_of};
 
 use refusal::Refusal;
 use root::sqrt;
+use std::ops::{Add, Div, Mul, Sub};
 
 #[repr(C)]
-#[derive(Clone, Copy)]
+#[derive(Clone, Copy, Debug)]
 pub struct Vector3 {
     pub x: f64,
     pub y: f64,
@@ -31,6 +32,7 @@ impl Vector3 {
         Self { x, y, z }
     }
 
+    // Document 01 asks for both, the constant and the function.
     pub fn zero() -> Self
         ensures { result ≡ zero_vector }
     {
@@ -54,46 +56,6 @@ impl Vector3 {
         }
     }
 
-    pub fn minus(self, other: Vector3) -> Self
-        ensures { result ≡ vector_difference self other }
-    {
-        Self {
-            x: self.x - other.x,
-            y: self.y - other.y,
-            z: self.z - other.z,
-        }
-    }
-
-    pub fn plus(self, other: Vector3) -> Self
-        ensures { result ≡ vector_sum self other }
-    {
-        Self {
-            x: self.x + other.x,
-            y: self.y + other.y,
-            z: self.z + other.z,
-        }
-    }
-
-    pub fn scale(self, factor: f64) -> Self
-        ensures { result ≡ vector_multiple self factor }
-    {
-        Self {
-            x: self.x * factor,
-            y: self.y * factor,
-            z: self.z * factor,
-        }
-    }
-
-    pub fn divide(self, divisor: f64) -> Self
-        ensures { result ≡ vector_quotient self divisor }
-    {
-        Self {
-            x: self.x / divisor,
-            y: self.y / divisor,
-            z: self.z / divisor,
-        }
-    }
-
     pub fn norm_squared(self) -> f64
         ensures { result ≡ squared_length self }
     {
@@ -109,7 +71,7 @@ impl Vector3 {
     pub fn normalize(self) -> Self
         ensures { result ≡ normalized self }
     {
-        self.divide(self.norm())
+        self / self.norm()
     }
 
     // Whether rows 5 and 9 let the vector pass. A component that is no finite number makes the squared length NaN or infinite, so the
@@ -120,10 +82,87 @@ impl Vector3 {
         let squared = self.norm_squared();
         (squared >= 9.094947017729282379150390625e-13) & (squared <= 1099511627776.0)
     }
+
+    // The vector where row 9 lets it pass as a direction, for a caller that tests that row alone. Queries test it in its place among their
+    // own checks.
+    pub fn admitted(self) -> Result<Vector3, Refusal>
+        ensures { result ≡ direction_of self }
+    {
+        if self.is_admissible() {
+            Ok(self)
+        } else {
+            Err(Refusal::Direction)
+        }
+    }
 }
 
-// The ids of a triangle's corners, as both locators answer them.
-#[derive(Clone, Copy)]
+// The rest goes component by component, one rounding each.
+impl Add for Vector3 {
+    type Output = Vector3;
+
+    ghost can_add = { λ a b. ⊤ };
+
+    ghost add_gives = { λ a b sum. sum ≡ vector_sum a b };
+
+    fn add(self, other: Vector3) -> Vector3 {
+        Vector3 {
+            x: self.x + other.x,
+            y: self.y + other.y,
+            z: self.z + other.z,
+        }
+    }
+}
+
+impl Sub for Vector3 {
+    type Output = Vector3;
+
+    ghost can_sub = { λ a b. ⊤ };
+
+    ghost sub_gives = { λ a b difference. difference ≡ vector_difference a b };
+
+    fn sub(self, other: Vector3) -> Vector3 {
+        Vector3 {
+            x: self.x - other.x,
+            y: self.y - other.y,
+            z: self.z - other.z,
+        }
+    }
+}
+
+impl Mul<f64> for Vector3 {
+    type Output = Vector3;
+
+    ghost can_mul = { λ a factor. ⊤ };
+
+    ghost mul_gives = { λ a factor multiple. multiple ≡ vector_multiple a factor };
+
+    fn mul(self, factor: f64) -> Vector3 {
+        Vector3 {
+            x: self.x * factor,
+            y: self.y * factor,
+            z: self.z * factor,
+        }
+    }
+}
+
+impl Div<f64> for Vector3 {
+    type Output = Vector3;
+
+    ghost can_div = { λ a divisor. ⊤ };
+
+    ghost div_gives = { λ a divisor quotient. quotient ≡ vector_quotient a divisor };
+
+    fn div(self, divisor: f64) -> Vector3 {
+        Vector3 {
+            x: self.x / divisor,
+            y: self.y / divisor,
+            z: self.z / divisor,
+        }
+    }
+}
+
+// The ids of a triangle's corners, as both locators answer them. Named fields and no array, as document 01 gives an answer's triple.
+#[derive(Clone, Copy, Debug, PartialEq, Eq)]
 pub struct Triple {
     pub first: u16,
     pub second: u16,
@@ -132,7 +171,7 @@ pub struct Triple {
 
 // The weights of a triangle's corners, in their order.
 #[repr(C)]
-#[derive(Clone, Copy)]
+#[derive(Clone, Copy, Debug)]
 pub struct Weights {
     pub u: f64,
     pub v: f64,
@@ -144,25 +183,5 @@ impl Weights {
         ensures { result ≡ weights u v w }
     {
         Self { u, v, w }
-    }
-}
-
-// A direction that row 9 lets pass, or its refusal, for a caller that tests one alone. Queries test row 9 in its place among their own
-// checks, by `is_admissible`, and take a Vector3.
-#[derive(Clone, Copy)]
-pub enum Direction {
-    Refused(Refusal),
-    Accepted(Vector3),
-}
-
-impl Direction {
-    pub fn new(vector: Vector3) -> Self
-        ensures { result ≡ direction_of vector }
-    {
-        if vector.is_admissible() {
-            Self::Accepted(vector)
-        } else {
-            Self::Refused(Refusal::new(9))
-        }
     }
 }

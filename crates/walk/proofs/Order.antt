@@ -5,12 +5,12 @@ use native.Mathlib.Omega.{arith}
 use mathlib.Core.Path.{◌≡◌, sym, ap, ◌∙◌}
 use mathlib.Core.Logic.{◌⊎◌, inl, inr}
 use mathlib.Core.Bool.{true, false}
-use mathlib.Core.List.{List, Memᴰ}
-use lib.ListN.{length}
+use mathlib.Core.List.{List, [], Memᴰ}
+use lib.ListN.{length, replicate, length-replicate, get_or-replicate}
 use Rattle.booleans.proofs.Booleans.{true_or_false}
 use Rattle.sequences.specs.Ascending.{is_member}
 use Rattle.sequences.specs.Permutation.{at, IsPermutation, inverse}
-use Rattle.sequences.proofs.Tabulate.{length_tabulate, tabulate_at, member_get_d, get_d_member}
+use Rattle.sequences.proofs.Tabulate.{length_tabulate, tabulate_at, tabulate_unique, member_get_d, get_d_member}
 use Rattle.sequences.proofs.Ascending.{is_member_true, member_is_member}
 use Rattle.sequences.proofs.Permutation.{inverse_unique, inverse_permutation}
 use Rattle.walk.specs.Walk.{unreached, place_from, order_of}
@@ -28,6 +28,11 @@ number_of_absent n q v lt absent = tabulate_at n (place_from 0 q) v 0 lt ∙ go 
     go : (is_member v q ≡ true) ⊎ (is_member v q ≡ false) → place_from 0 q v ≡ unreached
     go (inl e) = absurd (absent (is_member_true v q e))
     go (inr e) = place_of_absent 0 q v e
+
+-- no id has entered
+pub order_of_none : (n : ℕ) → order_of n [] ≡ replicate n unreached
+unfolding order_of place_from
+order_of_none n = sym (tabulate_unique n (place_from 0 []) (replicate n unreached) 0 (length-replicate n unreached) (λ v lt. get_or-replicate n v unreached 0 lt))
 
 module _ {n : ℕ} {q : List ℕ} (h : DistinctIds n q) where
   pub number_of_place : (k : ℕ) → k < length q → at (order_of n q) (at q k) ≡ k

@@ -1,4 +1,4 @@
--- What a walk's outcome has. Accepted: a permutation, its inverse in the queue, and all entries read (`walk_accepted`). Refused by row 13: the reached ids are numbered, no others (`unreached_numbered`). Refused by any row: what the index tells (`walk_index`). Assumes nothing.
+-- What a walk's outcome has. Accepted: a permutation, its inverse in the queue, and all entries read (`walk_accepted`). Err by row 13: the reached ids are numbered, no others (`unreached_numbered`). Err by any row: what the index tells (`walk_index`). Assumes nothing.
 use Prim.Native.Nat.{ℕ, ◌<◌}
 use native.Mathlib.Omega.{arith}
 use mathlib.Core.Path.{◌≡◌, refl, sym, ap, subst, ◌∙◌}
@@ -15,15 +15,15 @@ use Rattle.sequences.proofs.Tabulate.{take_overwrite, overwrite_at}
 use Rattle.sequences.proofs.Starts.{length_concatenate}
 use Rattle.sequences.proofs.Permutation.{is_permutation_complete, permutation_bijection}
 use Rattle.refusal.specs.declared.Refusal.{Refusal}
-use Rattle.refusal.specs.declared.Verdict.TheVariants.{Passed}
-use Rattle.refusal.specs.Refusal.{refusal, row, answer}
+use Rattle.refusal.specs.declared.Refusal.TheVariants.{Room, Unreached}
+use Rattle.refusal.specs.Refusal.{number_of, row, answer}
+use Rattle.std.specs.Prelude.{Result, Ok, Err}
 use Rattle.refusal.proofs.Rows.{EachReason}
 use Rattle.mesh.specs.Mesh.{Mesh, count, neighbours}
 use Rattle.mesh.specs.Rows.{adjacency_rows}
 use Rattle.mesh.proofs.Facts.{adjacency_facts}
 use Rattle.mesh.proofs.Neighbours.{neighbour_below, entries_of_neighbours}
 use Rattle.mesh.proofs.Refusals.{IndexTold, told_none, adjacency_index, adjacency_reasons}
-use Rattle.walk.specs.declared.Walk.TheVariants.{Refused, Walked}
 use Rattle.walk.specs.Walk.{Visit, breadth_first, unreached, order_of, WalkOutcome, walked, bfs_vertex_permutation}
 use Rattle.walk.specs.Buffers.{DistinctIds}
 use Rattle.walk.proofs.Queue.{ids_at_most, ids_permutation}
@@ -35,7 +35,7 @@ use Rattle.walk.proofs.Order.{length_order, number_of_place, number_of_member, n
 abbrev pub visit_of : Mesh → Visit
 visit_of m = breadth_first (count m) (neighbours m)
 
-module _ (m : Mesh) (passed : adjacency_rows m ≡ Passed) where
+module _ (m : Mesh) (passed : adjacency_rows m ≡ Ok tt) where
   -- the queue's ids are below the vertex count, and none is there twice
   pub queue_ids : DistinctIds (count m) (visit_of m).queue
   unfolding breadth_first
@@ -70,19 +70,19 @@ pub record PartialWalk (n : ℕ) (ids old order queue : List ℕ) : Type 0 where
   pub queued : queue ≡ overwrite ids old
 
 module _ (m : Mesh) (order queue : List ℕ) where
-  different : {A : Type 0} {reason : Refusal} {read : ℕ} → Refused reason ≡ Walked read → A
+  different : {A : Type 0} {reason : Refusal} {read : ℕ} → Err reason ≡ Ok read → A
   different e = let z : ◌≡◌ {A = ℕ} 0 1 = cc in absurd (let y : ⊥ = omega arith in y)
 
-  answered_all : (read : ℕ) → (walked m order queue).answered ≡ Walked read → (length (visit_of m).queue ≡ count m) × ((visit_of m).entries_read ≡ read)
+  answered_all : (read : ℕ) → (walked m order queue).answered ≡ Ok read → (length (visit_of m).queue ≡ count m) × ((visit_of m).entries_read ≡ read)
   unfolding walked
   answered_all read e = go (eqb (length (visit_of m).queue) (count m)) refl e
     where
-      go : (b : Bool) → eqb (length (visit_of m).queue) (count m) ≡ b → answer (row b (refusal 13) Passed) Refused (Walked (visit_of m).entries_read) ≡ Walked read
+      go : (b : Bool) → eqb (length (visit_of m).queue) (count m) ≡ b → answer (row b Unreached (Ok tt)) Err (Ok (visit_of m).entries_read) ≡ Ok read
           → (length (visit_of m).queue ≡ count m) × ((visit_of m).entries_read ≡ read)
       go true q a = (eqb-true (length (visit_of m).queue) (count m) q, cc)
       go false q a = different a
 
-  pub walk_accepted : (read : ℕ) → (bfs_vertex_permutation m order queue).answered ≡ Walked read
+  pub walk_accepted : (read : ℕ) → (bfs_vertex_permutation m order queue).answered ≡ Ok read
       → AcceptedWalk (count m) (length m.entries) read (take (count m) (bfs_vertex_permutation m order queue).order) (take (count m) (bfs_vertex_permutation m order queue).queue)
   unfolding walked
   walk_accepted read e = go (found m order queue)
@@ -103,28 +103,28 @@ module _ (m : Mesh) (order queue : List ℕ) where
             queue_distinct = ids.distinct;
           })
 
-  answered_some : (walked m order queue).answered ≡ Refused (refusal 13) → length (visit_of m).queue ≢ count m
+  answered_some : (walked m order queue).answered ≡ Err Unreached → length (visit_of m).queue ≢ count m
   unfolding walked
   answered_some e = go (eqb (length (visit_of m).queue) (count m)) refl e
     where
-      go : (b : Bool) → eqb (length (visit_of m).queue) (count m) ≡ b → answer (row b (refusal 13) Passed) Refused (Walked (visit_of m).entries_read) ≡ Refused (refusal 13)
+      go : (b : Bool) → eqb (length (visit_of m).queue) (count m) ≡ b → answer (row b Unreached (Ok tt)) Err (Ok (visit_of m).entries_read) ≡ Err Unreached
           → length (visit_of m).queue ≢ count m
       go true q a = different (sym a)
       go false q a = eqb-false (length (visit_of m).queue) (count m) q
 
-  pub unreached_numbered : (bfs_vertex_permutation m order queue).answered ≡ Refused (refusal 13) → PartialWalk (count m) (visit_of m).queue queue (bfs_vertex_permutation m order queue).order (bfs_vertex_permutation m order queue).queue
+  pub unreached_numbered : (bfs_vertex_permutation m order queue).answered ≡ Err Unreached → PartialWalk (count m) (visit_of m).queue queue (bfs_vertex_permutation m order queue).order (bfs_vertex_permutation m order queue).queue
   unfolding walked
   unreached_numbered e = go (found m order queue)
     where
-      rows_not_13 : EachReason (λ reason. reason.number ≢ 13) (adjacency_rows m)
-      rows_not_13 = adjacency_reasons (λ reason. reason.number ≢ 13) m (λ z. omega arith) (λ z. omega arith) (λ z. omega arith) (λ falls z. omega arith) (λ z. omega arith)
+      rows_not_13 : EachReason (λ reason. number_of reason ≢ 13) (adjacency_rows m)
+      rows_not_13 = adjacency_reasons (λ reason. number_of reason ≢ 13) m (λ z. omega arith) (λ z. omega arith) (λ z. omega arith) (λ index falls z. omega arith) (λ z. omega arith)
 
-      other : {A : Type 0} (reason : Refusal) → Refused reason ≡ Refused (refusal 13) → reason.number ≢ 13 → A
+      other : {A : Type 0} (reason : Refusal) → ◌≡◌ {A = Result ℕ Refusal} (Err reason) (Err Unreached) → number_of reason ≢ 13 → A
       other reason a differs = absurd (differs cc)
 
       go : Found m order queue → PartialWalk (count m) (visit_of m).queue queue (bfs_vertex_permutation m order queue).order (bfs_vertex_permutation m order queue).queue
       go (rows_refuse reason p o) = other reason (ap (λ (w : WalkOutcome). w.answered) o ∙ e) (rows_not_13 reason p)
-      go (short p o) = other (refusal 8) (ap (λ (w : WalkOutcome). w.answered) o ∙ e) (λ z. omega arith)
+      go (short p o) = other Room (ap (λ (w : WalkOutcome). w.answered) o ∙ e) (λ z. omega arith)
       go (made_of p o) =
           let ids = queue_ids m p in
           let most = ids_at_most ids in
@@ -140,18 +140,18 @@ module _ (m : Mesh) (order queue : List ℕ) where
           })
 
   -- 18 carries the index of the first start that falls, every other refusal 0
-  pub walk_index : (reason : Refusal) → (bfs_vertex_permutation m order queue).answered ≡ Refused reason → IndexTold m.starts reason
+  pub walk_index : (reason : Refusal) → (bfs_vertex_permutation m order queue).answered ≡ Err reason → IndexTold m.starts reason
   unfolding walked
   walk_index reason e = go (found m order queue)
     where
-      told : (own : Refusal) → IndexTold m.starts own → Refused own ≡ Refused reason → IndexTold m.starts reason
+      told : (own : Refusal) → IndexTold m.starts own → ◌≡◌ {A = Result ℕ Refusal} (Err own) (Err reason) → IndexTold m.starts reason
       told own t a = subst (IndexTold m.starts) (let same : own ≡ reason = cc in same) t
 
-      ended : (b : Bool) → answer (row b (refusal 13) Passed) Refused (Walked (visit_of m).entries_read) ≡ Refused reason → IndexTold m.starts reason
+      ended : (b : Bool) → answer (row b Unreached (Ok tt)) Err (Ok (visit_of m).entries_read) ≡ Err reason → IndexTold m.starts reason
       ended true a = different (sym a)
-      ended false a = told (refusal 13) (told_none m.starts 13 (λ z. omega arith)) a
+      ended false a = told Unreached (told_none m.starts Unreached (λ z. omega arith)) a
 
       go : Found m order queue → IndexTold m.starts reason
       go (rows_refuse own p o) = told own (adjacency_index m own p) (ap (λ (w : WalkOutcome). w.answered) o ∙ e)
-      go (short p o) = told (refusal 8) (told_none m.starts 8 (λ z. omega arith)) (ap (λ (w : WalkOutcome). w.answered) o ∙ e)
+      go (short p o) = told Room (told_none m.starts Room (λ z. omega arith)) (ap (λ (w : WalkOutcome). w.answered) o ∙ e)
       go (made_of p o) = ended (eqb (length (visit_of m).queue) (count m)) (ap (λ (w : WalkOutcome). w.answered) o ∙ e)

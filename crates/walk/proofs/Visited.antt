@@ -17,10 +17,9 @@ use Rattle.sequences.proofs.Range.{sum_extensional, sum_injection}
 use Rattle.sequences.proofs.Tabulate.{member_get_d, slice_as_take}
 use Rattle.sequences.proofs.Starts.{part_member, part_start, part_length, rows_within}
 use Rattle.sequences.proofs.Permutation.{permutation_bijection, sum_bijection}
-use Rattle.walk.specs.declared.Reach.{Reach}
 use Rattle.walk.specs.Walk.{enter, entered, Visit, leave, visited, breadth_first}
-use Rattle.walk.specs.Buffers.{DistinctIds, Walkable, Holding, Traversed}
-use Rattle.walk.proofs.Queue.{entered_longer, entered_keeps, ids_injective, ids_below_lem, ids_with_absent, ids_permutation, holding_at, holding_below, holding_longer}
+use Rattle.walk.specs.Buffers.{DistinctIds, Walkable, Holding}
+use Rattle.walk.proofs.Queue.{entered_longer, entered_keeps, ids_injective, ids_below_lem, ids_with_absent, ids_permutation, holding_at, holding_below}
 
 -- ---- ids stay ids, none twice
 enter_ids : (n : ℕ) (q : List ℕ) (v : ℕ) → DistinctIds n q → v < n → DistinctIds n (enter q v)
@@ -64,19 +63,6 @@ module _ (lists : ℕ → List ℕ) where
   pub visited_end : (n k : ℕ) → length (visited lists k).queue ≤ k → k ≤ n → visited lists k ≡ breadth_first n lists
   unfolding breadth_first
   visited_end n k le room = let e : k + (n - k) ≡ n = omega arith in sym (visited_beyond k (n - k) le) ∙ ap (visited lists) e
-
-  -- vertex 0 has entered
-  pub visited_some : (k : ℕ) → 0 < length (visited lists k).queue
-  unfolding visited leave
-  visited_some zero = omega arith
-  visited_some (suc k) = go (dec_lt k (length (visited lists k).queue)) (visited_some k)
-    where
-      go : Dec (k < length (visited lists k).queue) → 0 < length (visited lists k).queue → 0 < length (visited lists (suc k)).queue
-      go (yes lt) h =
-          let e = ap (λ (w : Visit). length w.queue) (visited_next k lt) in
-          let r = entered_longer (visited lists k).queue (lists (get_or (visited lists k).queue k 0)) in
-          omega arith
-      go (no nl) h = let e = ap (λ (w : Visit). length w.queue) (visited_stays k (omega arith)) in omega arith
 
   -- ---- over n vertices
   module _ {n : ℕ} (some : 0 < n) (below : (v : ℕ) → v < n → (x : ℕ) → Memᴰ x (lists v) → x < n) where
@@ -177,19 +163,3 @@ turn_at {starts} {entries} {order₀} w {k} {reached} {read} {queue} h lt e =
       read_next = omega arith;
       read_within = omega arith;
     }
-
--- only the lengths of the buffers matter
-pub walkable_lengths : {starts entries order queue order₁ queue₁ : List ℕ} → length order₁ ≡ length order → length queue₁ ≡ length queue → Walkable starts entries order queue → Walkable starts entries order₁ queue₁
-walkable_lengths {starts} {entries} e f w = record {
-  rows = rw e w.rows;
-  ids_below = λ i lt. let r = w.ids_below i lt in omega arith;
-  some = let r = w.some in omega arith;
-  few = let r = w.few in omega arith;
-  room = let r = w.room in omega arith;
-}
-
--- the walk began with vertex 0 alone in the queue
-pub traversed_from : {n : ℕ} {lists : ℕ → List ℕ} {old order₀ queue₀ order queue : List ℕ} {reach : Reach} → Holding n (0 ∷ []) old 1 order₀ queue₀
-    → Traversed n lists queue₀ reach order queue → Traversed n lists old reach order queue
-unfolding breadth_first
-traversed_from {n} {lists} h t = record { holds = holding_longer h (visited_some lists n) t.holds; entries_agree = t.entries_agree }

@@ -1,13 +1,12 @@
 -- The walk: "breadth first from vertex 0, lists in stored order; it gives each old id its new one, leaves the old ids in that order in its queue, and counts entries read" (document 01). Definitions only.
-use Rattle.std.specs.Prelude.{ℕ, zero, suc, ◌+◌, Bool, true, false, ◌&&◌, cond, List, [], ◌∷◌, ◌++◌, leb, ltb, eqb, length, get_or}
+use Rattle.std.specs.Prelude.{ℕ, zero, suc, ◌+◌, Bool, true, false, ◌&&◌, cond, List, [], ◌∷◌, ◌++◌, leb, ltb, eqb, length, get_or, Result, Ok, Err}
 use Rattle.sequences.specs.Tabulate.{tabulate, overwrite}
 use Rattle.sequences.specs.Ascending.{is_member}
-use Rattle.refusal.specs.declared.Verdict.TheVariants.{Passed}
-use Rattle.refusal.specs.Refusal.{refusal, row, then, answer}
+use Rattle.refusal.specs.declared.Refusal.{Refusal}
+use Rattle.refusal.specs.declared.Refusal.TheVariants.{Room, Unreached}
+use Rattle.refusal.specs.Refusal.{row, then, answer}
 use Rattle.mesh.specs.Mesh.{Mesh, count, neighbours}
 use Rattle.mesh.specs.Rows.{adjacency_rows}
-use Rattle.walk.specs.declared.Walk.{Walk}
-use Rattle.walk.specs.declared.Walk.TheVariants.{Refused, Walked}
 
 -- The queue after v was met: it enters behind the last, unless it has entered before. An id stays in the queue once it has entered.
 unfoldable pub enter : List ℕ → ℕ → List ℕ
@@ -52,14 +51,14 @@ place_from k (x ∷ xs) v = cond (eqb v x) k (place_from (suc k) xs v)
 unfoldable pub order_of : ℕ → List ℕ → List ℕ
 order_of n queue = tabulate n (place_from 0 queue)
 
--- The whole outcome of a call: its answer, and the lent slices at exit.
+-- The whole outcome of a call: its answer, the count of entries read or why it is refused, and the lent slices at exit.
 pub record WalkOutcome : Type 0 where
-  pub answered : Walk
+  pub answered : Result ℕ Refusal
   pub order : List ℕ
   pub queue : List ℕ
 
 -- The same from its parts.
-abbrev pub walk_outcome : Walk → List ℕ → List ℕ → WalkOutcome
+abbrev pub walk_outcome : Result ℕ Refusal → List ℕ → List ℕ → WalkOutcome
 walk_outcome answered order queue = record { answered = answered; order = order; queue = queue }
 
 -- Row 8: one place a vertex in each.
@@ -70,11 +69,11 @@ walk_fits n order queue = leb n (length order) && leb n (length queue)
 unfoldable pub walked : Mesh → List ℕ → List ℕ → WalkOutcome
 walked m order queue =
     let visit = breadth_first (count m) (neighbours m) in
-    walk_outcome (answer (row (eqb (length visit.queue) (count m)) (refusal 13) Passed) Refused (Walked visit.entries_read))
+    walk_outcome (answer (row (eqb (length visit.queue) (count m)) Unreached (Ok tt)) Err (Ok visit.entries_read))
     (overwrite (order_of (count m) visit.queue) order) (overwrite visit.queue queue)
 
 -- The mesh rows 2 to 4, then 8 and 13. All but the last change nothing.
 unfoldable pub bfs_vertex_permutation : Mesh → List ℕ → List ℕ → WalkOutcome
 bfs_vertex_permutation m order queue =
-    answer (then (adjacency_rows m) (row (walk_fits (count m) order queue) (refusal 8) Passed))
-    (λ reason. walk_outcome (Refused reason) order queue) (walked m order queue)
+    answer (then (adjacency_rows m) (row (walk_fits (count m) order queue) Room (Ok tt)))
+    (λ reason. walk_outcome (Err reason) order queue) (walked m order queue)

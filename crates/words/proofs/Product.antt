@@ -1,5 +1,5 @@
 -- The product of two words by halves of 32 bits, column by column. Assumes nothing.
-use Rattle.std.proofs.Common.{◌≡◌, ℕ, ◌+◌, ◌-◌, ◌*◌, ◌/◌, ◌%◌, ◌^◌, ◌<◌, ◌≤◌, sym, ◌∙◌, ap₂, lt_of_le_of_lt, le_of_lt, mul_assoc, mul_comm, add-mul, mul-le-mul, mul-le-mul_left, mul-lt-mul_of_pos_right, mul-add, mul_left_comm, arith}
+use Rattle.std.proofs.Common.{◌≡◌, ℕ, ◌+◌, ◌*◌, ◌/◌, ◌%◌, ◌^◌, ◌<◌, ◌≤◌, sym, ◌∙◌, ap₂, lt_of_le_of_lt, le_of_lt, mul_assoc, mul_comm, add-mul, mul-le-mul_left, mul-lt-mul_of_pos_right, mul-add, mul_left_comm, arith}
 use lib.Pow.{split}
 
 -- the columns of the four products of halves
@@ -20,13 +20,6 @@ product_by_halves a b =
     columns (a / 2 ^ 32 * (b / 2 ^ 32)) (a / 2 ^ 32 * (b % 2 ^ 32)) (a % 2 ^ 32 * (b / 2 ^ 32)) (a % 2 ^ 32 * (b % 2 ^ 32))
     ∙ sym (expand (2 ^ 32) (a / 2 ^ 32) (a % 2 ^ 32) (b / 2 ^ 32) (b % 2 ^ 32))
     ∙ ap₂ (λ (x y : ℕ). x * y) (split a 32) (split b 32)
-
--- a product of halves leaves room for two more halves
-pub halves_product_le : (a b : ℕ) → a < 2 ^ 32 → b < 2 ^ 32 → a * b ≤ 2 ^ 64 - 2 ^ 33 + 1
-halves_product_le a b ha hb =
-    let x : a ≤ 2 ^ 32 - 1 = omega arith in
-    let y : b ≤ 2 ^ 32 - 1 = omega arith in
-    mul-le-mul x y
 
 pub mul_lt : {x y X Y : ℕ} → x < X → y < Y → x * y < X * Y
 mul_lt {x} {y} {X} {Y} p q = lt_of_le_of_lt (mul-le-mul_left x (le_of_lt q)) (mul-lt-mul_of_pos_right p (lt_of_le_of_lt (let k : 0 ≤ y = omega arith in k) q))

@@ -2,61 +2,65 @@
 // keep a sticky bit, and the left shift that brings a number to its top bit.
 #![tactic(auto)]
 
-ghost use Rattle.std.specs.Prelude.{◌≡◌, ◌+◌, ◌-◌, ◌*◌, ◌^◌, ◌<◌, ◌≤◌, if◌then◌else◌, nat_lt};
+ghost use Rattle.std.specs.Prelude.{◌≡◌, ◌+◌, ◌-◌, ◌*◌, ◌^◌, ◌<◌, ◌≤◌, if◌then◌else◌};
 ghost use Rattle.words.specs.Value.{value};
 ghost use Rattle.words.specs.Sticky.{StickyEquivalent};
 
-// The number hi * 2^64 + lo.
-#[derive(Clone, Copy)]
+use std::ops::{Add, Sub};
+
+// The number hi * 2^64 + lo. The high word is first, so that the derived order is that of the numbers.
+#[derive(Clone, Copy, PartialEq, Eq, PartialOrd, Ord)]
 pub struct TwoWords {
     pub hi: u64,
     pub lo: u64,
 }
 
+impl TwoWords {
+    pub const ZERO: TwoWords = TwoWords { hi: 0, lo: 0 };
+}
+
 // x + y. The low sum wraps, and the carry is taken from it.
-pub fn add_words(x: TwoWords, y: TwoWords) -> TwoWords
-    requires { value x + value y < 2 ^ 128 }
-    ensures { value result ≡ value x + value y }
-{
-    let lo = std::num::wrapping_add_u64(x.lo, y.lo);
-    let carry: u64 = if lo < x.lo { 1 } else { 0 };
-    TwoWords {
-        hi: x.hi + y.hi + carry,
-        lo,
+impl Add for TwoWords {
+    type Output = TwoWords;
+
+    ghost can_add = { λ x y. value x + value y < 2 ^ 128 };
+
+    ghost add_gives = { λ x y sum. value sum ≡ value x + value y };
+
+    fn add(self, other: TwoWords) -> TwoWords {
+        let lo = self.lo.wrapping_add(other.lo);
+        let carry = u64::from(lo < self.lo);
+        TwoWords {
+            hi: self.hi + other.hi + carry,
+            lo,
+        }
     }
 }
 
 // x - y. The low difference wraps, and the borrow is taken from it.
-pub fn subtract_words(x: TwoWords, y: TwoWords) -> TwoWords
-    requires { value y ≤ value x }
-    ensures { value result ≡ value x - value y }
-{
-    let lo = std::num::wrapping_sub_u64(x.lo, y.lo);
-    let borrow: u64 = if x.lo < lo { 1 } else { 0 };
-    TwoWords {
-        hi: x.hi - y.hi - borrow,
-        lo,
+impl Sub for TwoWords {
+    type Output = TwoWords;
+
+    ghost can_sub = { λ x y. value y ≤ value x };
+
+    ghost sub_gives = { λ x y difference. value difference ≡ value x - value y };
+
+    fn sub(self, other: TwoWords) -> TwoWords {
+        let lo = self.lo.wrapping_sub(other.lo);
+        let borrow = u64::from(self.lo < lo);
+        TwoWords {
+            hi: self.hi - other.hi - borrow,
+            lo,
+        }
     }
 }
 
-// Whether x < y.
-pub fn less_words(x: TwoWords, y: TwoWords) -> bool
-    ensures { result ≡ nat_lt (value x) (value y) }
-{
-    if x.hi == y.hi {
-        x.lo < y.lo
-    } else {
-        x.hi < y.hi
-    }
-}
-
-// x where `first` holds, and else y. Word by word, which leaves a processor no branch to foresee.
-pub fn choose_words(first: bool, x: TwoWords, y: TwoWords) -> TwoWords
+// x where `first` holds, and else y, for two values that are both worked out: this leaves a
+// processor no branch to foresee.
+pub fn choose<T: Copy>(first: bool, x: T, y: T) -> T
     ensures { result ≡ (if first then x else y) }
 {
-    let hi = if first { x.hi } else { y.hi };
-    let lo = if first { x.lo } else { y.lo };
-    TwoWords { hi, lo }
+    if first { x } else { y }
 }
 
 // The exact product, by halves of 32 bits.
@@ -101,8 +105,8 @@ pub fn collapse_sticky(x: TwoWords) -> u64
 
 // x / 2^shift for a shift of 1 to 63, likewise.
 fn shift_words_right_sticky_short(x: TwoWords, shift: u64) -> TwoWords
-    requires fact_1 { 0 < shift }
-    requires fact_2 { shift < 64 }
+    requires some { 0 < shift }
+    requires within_a_word { shift < 64 }
     ensures { StickyEquivalent 2 (2 ^ shift) (value x) (value result) }
 {
     let kept = x.lo >> shift;
@@ -151,7 +155,7 @@ pub fn normalise_words(x: TwoWords) -> Normalised
     ensures { (value result.words ≡ value x * 2 ^ result.shift) × (2 ^ 63 ≤ result.words.hi) × (result.shift < 128) }
 {
     if x.hi == 0 {
-        let zeros = u64::leading_zeros(x.lo) as u64;
+        let zeros = x.lo.leading_zeros() as u64;
         Normalised {
             words: TwoWords {
                 hi: x.lo << zeros,
@@ -160,7 +164,7 @@ pub fn normalise_words(x: TwoWords) -> Normalised
             shift: zeros + 64,
         }
     } else {
-        let zeros = u64::leading_zeros(x.hi) as u64;
+        let zeros = x.hi.leading_zeros() as u64;
         Normalised {
             words: TwoWords {
                 hi: (x.hi << zeros) + ((x.lo >> 1) >> (63 - zeros)),
