@@ -1,7 +1,7 @@
 -- Laws of the analytic queries: which row answers, and that every id given out is below the vertex count. Assumes nothing.
 use Rattle.std.specs.Prelude.{Result, Ok, Err}
 use Rattle.std.proofs.Common.{◌≡◌, ℕ, ◌*◌, ◌<◌, Bool, true, false, cond, ◌&&◌, ltb, leb, List, length, sym, ap, refl, arith, ltb-true}
-use Rattle.booleans.proofs.Booleans.{and_split}
+use Rattle.std.proofs.lemmas.Bool.{and_parts}
 use Rattle.refusal.specs.declared.Refusal.{Refusal}
 use Rattle.refusal.specs.declared.Refusal.TheVariants.{Frequency, Room, Direction, Flags, Id}
 use Rattle.refusal.specs.Refusal.{row, answer}
@@ -21,8 +21,8 @@ use Rattle.analytic.specs.declared.SubTriangle.{SubTriangle}
 use Rattle.master_face.specs.MasterFace.{master_face_of}
 use Rattle.analytic.specs.FaceChoice.{signs_of, outside_first, flag_sum, flags_fit, mapped_face, choose_face, face_choice_of}
 use Rattle.analytic.specs.SubTriangle.{sub_triangle_on}
-use Rattle.analytic.specs.Location.{corner_ids, triple_below, located, locate_on, query_rows, analytic_locate, last_greatest, corner_of, analytic_nearest}
 use Rattle.analytic.proofs.FaceMapping.{mapped_face_below}
+use Rattle.analytic.specs.Location.{corner_ids, triple_below, located, locate_on, query_rows, analytic_locate, last_greatest, corner_of, analytic_nearest}
 
 -- ---- the choice of a face
 -- an answer behind one row was accepted exactly where the row passed
@@ -83,8 +83,8 @@ pub record TripleBelow (bound : ℕ) (t : Triple) : Type 0 where
 triple_below_lem : (bound : ℕ) (t : Triple) → triple_below bound t ≡ true → TripleBelow bound t
 unfolding triple_below
 triple_below_lem bound t e =
-    let outer = and_split (ltb t.first bound && ltb t.second bound) (ltb t.third bound) e in
-    let inner = and_split (ltb t.first bound) (ltb t.second bound) outer.0 in
+    let outer = and_parts (ltb t.first bound && ltb t.second bound) (ltb t.third bound) e in
+    let inner = and_parts (ltb t.first bound) (ltb t.second bound) outer.0 in
     record { first_below = ltb-true _ _ inner.0; second_below = ltb-true _ _ inner.1; third_below = ltb-true _ _ outer.1 }
 
 no_refusal : (reason : Refusal) (l : Located) → ◌≡◌ {A = Result Located Refusal} (Err reason) (Ok l) → ⊥
@@ -134,10 +134,6 @@ direction_passed v p e = by_row_accepted (admissible v) Direction v p (sym e)
 pub direction_refused : (v : Vector3) (reason : Refusal) → Err reason ≡ direction_of v → (admissible v ≡ false) × (reason ≡ Direction)
 unfolding direction_of
 direction_refused v reason e = by_row_refused (admissible v) Direction reason v (sym e)
-
-pub face_below : (p : Vector3) (face : ℕ) → Ok face ≡ face_choice_of p → face < 20
-unfolding face_choice_of
-face_below p face e = chosen_face_below (signs_of p) (outside_first p) face (sym e)
 
 -- behind the four rows: row 4 on the triangle's ids, as they are read from the table
 pub answered : (n m table_n : ℕ) (ids table_ids : List ℕ) (v p : Vector3) (face : ℕ) (t : SubTriangle) (triple : Triple) (below : Bool)

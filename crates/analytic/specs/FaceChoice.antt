@@ -6,6 +6,7 @@ use Rattle.refusal.specs.declared.Refusal.TheVariants.{Flags}
 use Rattle.refusal.specs.Refusal.{Verdict, row, answer}
 use Rattle.vector.specs.declared.Vector3.{Vector3}
 use Rattle.vector.specs.Vector.{vector_sum}
+use Rattle.icosahedron.specs.declared.Face.{Face}
 use Rattle.icosahedron.specs.Icosahedron.{icosahedron_point}
 use Rattle.analytic.specs.declared.Signs.{Signs}
 use Rattle.master_face.specs.declared.Three.{Three}
@@ -40,6 +41,11 @@ flags_fit o = nat_le (flag_sum o) 3
 -- Row 10, and then the next rows.
 abbrev pub flag_row : Three Bool → Verdict → Verdict
 flag_row o next = row (flags_fit o) Flags next
+
+-- the index of a face that was chosen, or the refusal
+abbrev pub face_index : Result Face Refusal → Result ℕ Refusal
+face_index (Ok face) = Ok face.index
+face_index (Err reason) = Err reason
 
 -- "and the sum picks from `FACE_MAPPING`."
 unfoldable pub choose_face : Signs → Three Bool → Result ℕ Refusal

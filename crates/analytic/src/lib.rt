@@ -2,17 +2,17 @@
 #![tactic(auto)]
 
 ghost use Rattle.std.specs.Prelude.{◌≡◌, ◌≤◌};
-ghost use Rattle.analytic.specs.FaceChoice.{flag_weight, signs_of, flag_sum, mapped_face, choose_face, face_choice_of};
+ghost use Rattle.analytic.specs.FaceChoice.{signs_of, flag_sum, mapped_face, face_index, choose_face, face_choice_of};
 ghost use Rattle.analytic.specs.SubTriangle.{clamped_floor, sub_triangle, sub_triangle_at, sub_triangle_on};
 ghost use Rattle.analytic.specs.Location.{triple_below, analytic_locate, last_greatest, analytic_nearest};
 
-mod id_table;
+mod slot_ids;
 
 use icosahedron::{Face, Frequency, icosahedron_point};
-use id_table::IdTable;
 use master_face::faces::master_face_of;
 use master_face::{MasterFace, Three};
 use refusal::Refusal;
+use slot_ids::SlotIds;
 use vector::{Triple, Vector3, Weights};
 
 // On which side of each symmetry plane a point lies: whether on the negative one.
@@ -36,7 +36,8 @@ pub struct SubTriangle {
     pub weights: Weights,
 }
 
-// The triangle of a lattice that a direction meets: the ids of its corners, and their weights.
+// The triangle of a lattice that a direction meets: the ids of its corners, and their weights. The grid's `LocatedTriangle` stands
+// apart: in document 01 its answer is "a triple with three weights and the least of them", and this one has no least.
 #[derive(Clone, Copy, Debug)]
 pub struct Located {
     pub triple: Triple,
@@ -55,29 +56,21 @@ const FACE_MAPPING: [[u8; 4]; 8] = [
     [18, 19, 12, 17],
 ];
 
-// The weight where the flag is set, and 0 where not.
-fn flag_weight(flag: bool, weight: usize) -> usize
-    ensures weighed { result ≡ flag_weight flag weight }
-    ensures bounded { result ≤ weight }
-{
-    if flag { weight } else { 0 }
-}
-
 // The sum of the flags' weights 1, 2 and 3.
 #[tactic(auto, unfolding(crate::specs::FaceChoice::flag_sum))]
 fn flag_sum(outside: Three<bool>) -> usize
     ensures { result ≡ flag_sum outside }
 {
-    flag_weight(outside.first, 1) + flag_weight(outside.second, 2) + flag_weight(outside.third, 3)
+    usize::from(outside.first) + 2 * usize::from(outside.second) + 3 * usize::from(outside.third)
 }
 
-// One of the four faces that the signs leave.
+// One of the four faces that the signs leave. The place is the flag sum of document 01, 0 where the point lies beyond no plane.
 #[tactic(auto, using(crate::proofs::FaceMapping::table_mapped_face, crate::proofs::FaceMapping::mapped_face_below))]
 fn mapped_face(signs: Signs, place: usize) -> Face
     requires { place ≤ 3 }
     ensures { result.index ≡ mapped_face signs place }
 {
-    let arrangement = flag_weight(signs.i, 4) + flag_weight(signs.j, 2) + flag_weight(signs.k, 1);
+    let arrangement = 4 * usize::from(signs.i) + 2 * usize::from(signs.j) + usize::from(signs.k);
     Face {
         index: FACE_MAPPING[arrangement][place] as usize,
     }
@@ -88,12 +81,12 @@ const GREATEST_FLAG_SUM: usize = 3;
 
 // The face that three symmetry signs and three outside flags choose, or refusal 10.
 #[tactic(auto, unfolding(crate::specs::FaceChoice::choose_face))]
-pub fn choose_face(signs: Signs, outside: Three<bool>) -> Result<usize, Refusal>
-    ensures { result ≡ choose_face signs outside }
+pub fn choose_face(signs: Signs, outside: Three<bool>) -> Result<Face, Refusal>
+    ensures { face_index result ≡ choose_face signs outside }
 {
     let sum = flag_sum(outside);
     if sum <= GREATEST_FLAG_SUM {
-        Ok(mapped_face(signs, sum).index)
+        Ok(mapped_face(signs, sum))
     } else {
         Err(Refusal::Flags)
     }
@@ -116,11 +109,11 @@ fn signs_of(p: Vector3) -> Signs
 
 // The choice of a direction's master face.
 #[tactic(auto, unfolding(crate::specs::FaceChoice::face_choice_of, crate::specs::FaceChoice::outside_first))]
-pub fn master_face(p: Vector3) -> Result<usize, Refusal>
-    ensures { result ≡ face_choice_of p }
+pub fn master_face(p: Vector3) -> Result<Face, Refusal>
+    ensures { face_index result ≡ face_choice_of p }
 {
     let signs = signs_of(p);
-    let first = master_face_of(mapped_face(signs, 0).index);
+    let first = master_face_of(mapped_face(signs, 0));
     choose_face(signs, first.outside(p))
 }
 
@@ -129,7 +122,7 @@ fn clamped_floor(frequency: Frequency, u: f64) -> u32
     ensures { result ≡ clamped_floor frequency.n u }
 {
     if u > 0.0 {
-        if u < 9007199254740992.0 {
+        if u < binary64::NO_FRACTION as f64 {
             (binary64::whole_digits(u) as usize).min(frequency.n) as u32
         } else {
             frequency.n as u32
@@ -212,11 +205,10 @@ pub fn locate(frequency: u32, id_table: &[u16], direction: Vector3) -> Result<Lo
     ensures { result ≡ analytic_locate frequency id_table.now direction }
 {
     let lattice = Frequency::new(frequency as usize)?;
-    let table = IdTable::new(lattice, id_table)?;
+    let table = SlotIds::new(lattice, id_table)?;
     let p = direction.admitted()?;
-    let index = master_face(p)?;
-    let face = Face { index };
-    let t = sub_triangle_on(lattice, master_face_of(face.index), p);
+    let face = master_face(p)?;
+    let t = sub_triangle_on(lattice, master_face_of(face), p);
     let triple = table.corner_ids(face, t);
     if !triple_below(lattice.vertex_count(), triple) {
         return Err(Refusal::Id);

@@ -1,12 +1,13 @@
 -- What the least of three weights is: NaN where all are, one of the three, with none of them below it, and the same in whatever order they come. Assumes nothing.
-use mathlib.Core.Path.{◌≡◌, refl, sym, ap, ◌∙◌}
-use mathlib.Core.Logic.{◌⊎◌, inl, inr}
+use mathlib.Core.Path.{◌≡◌, sym, ap, ◌∙◌}
+use mathlib.Core.Logic.{◌⊎◌, inl, inr, ⊎_elim}
 use mathlib.Core.Bool.{Bool, true, false, ◌&&◌, ◌||◌, false≢true}
 use lib.Dec.{T}
 use lib.Ieee.{Float, binary64, lt, le, is_nan, fits}
-use Rattle.booleans.proofs.Booleans.{and_split, or_either}
+use lib.Ieee.Bits.{is_true}
+use Rattle.std.proofs.lemmas.Bool.{and_parts, or_cases, false_from_ne_true}
+use Rattle.std.proofs.lemmas.Float.{T_from_true, lt_of_le_of_lt}
 use Rattle.binary64.specs.Minimum.{minimum_number}
-use Rattle.binary64.proofs.LessThan.{le_lt_transitive}
 use Rattle.binary64.proofs.Minimum.{minimum_operand, minimum_nan, first_not_below, second_not_below, still_not_below}
 use Rattle.binary64.proofs.MinimumRank.{minimum_commutes, minimum_associates}
 use Rattle.vector.specs.declared.Weights.{Weights}
@@ -34,22 +35,19 @@ none_below_least t =
     }
   where
     both : is_nan (minimum_number t.u t.v) ≡ true → (is_nan t.u ≡ true) × (is_nan t.v ≡ true)
-    both e = and_split (is_nan t.u) (is_nan t.v) (sym (minimum_nan t.u t.v) ∙ e)
+    both e = and_parts (is_nan t.u) (is_nan t.v) (sym (minimum_nan t.u t.v) ∙ e)
 
 -- So a weight that is at most a bound says that the least does not exceed it, and no minimum need be taken.
 pub least_not_above : (t : Weights) (bound : Float) → ((le t.u bound || le t.v bound) || le t.w bound) ≡ true → lt bound (least_weight t) ≡ false
 least_not_above t bound h =
     let none = none_below_least t in
-    or_either (le t.u bound || le t.v bound) (le t.w bound) h
-    (λ two. or_either (le t.u bound) (le t.v bound) two (λ e. held t.u e none.u_not_below) (λ e. held t.v e none.v_not_below))
-    (λ e. held t.w e none.w_not_below)
+    elim (or_cases (le t.u bound || le t.v bound) (le t.w bound) h) [
+      | inl two ↦ ⊎_elim (λ e. held t.u e none.u_not_below) (λ e. held t.v e none.v_not_below) (or_cases (le t.u bound) (le t.v bound) two)
+      | inr e ↦ held t.w e none.w_not_below
+    ]
   where
     held : (weight : Float) → le weight bound ≡ true → lt weight (least_weight t) ≡ false → lt bound (least_weight t) ≡ false
-    held weight e not_below = go (lt bound (least_weight t)) refl
-      where
-        go : (b : Bool) → lt bound (least_weight t) ≡ b → lt bound (least_weight t) ≡ false
-        go true above = absurd (false≢true (sym not_below ∙ le_lt_transitive weight bound (least_weight t) e above))
-        go false above = above
+    held weight e not_below = false_from_ne_true (lt bound (least_weight t)) (λ above. false≢true (sym not_below ∙ is_true _ (lt_of_le_of_lt weight bound (least_weight t) (T_from_true _ e) (T_from_true _ above))))
 
 pub least_weight_is_weight : (t : Weights) → ((least_weight t ≡ t.u) ⊎ (least_weight t ≡ t.v)) ⊎ (least_weight t ≡ t.w)
 unfolding least_weight

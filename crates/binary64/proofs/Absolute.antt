@@ -1,12 +1,12 @@
 -- Laws of the absolute value: when it is at most a bound (`abs_within`) and when at least one (`abs_from_above`, `abs_from_below`); that of a quotient by a value above zero is the quotient of the dividend's (`abs_div`). Assumes nothing.
 use Rattle.std.proofs.Common.{◌≡◌, ℕ, ◌<◌, Bool, true, false, T, ◌⊎◌, sym, refl, ap, ◌∙◌, subst, inl, inr, true≢false, arith, ltb→lt, ne_eqb}
 use lib.Ieee.{Float, nan, inf, fin, Format, round, div, neg, le, is_nan}
-use lib.Ieee.Bits.{is_true}
+use lib.Ieee.Bits.{is_false}
+use Rattle.std.proofs.lemmas.Float.{T_from_false, le_refl, le_right, le_trans, le_of_not-lt}
 use lib.Ieee.Positive.{positive}
 use lib.Ieee.Scale.{finite}
 use Rattle.binary64.specs.Absolute.{abs}
-use Rattle.binary64.proofs.FloatOrder.{signs_apart, le_right_number, le_of_not_lt}
-use Rattle.binary64.proofs.LessThan.{le_reflexive, le_transitive}
+use Rattle.binary64.proofs.FloatOrder.{signs_apart}
 use Rattle.binary64.proofs.Negation.{neg_neg, neg_round}
 use Rattle.binary64.proofs.NotNan.{Signed, infinite, number, round_signed}
 use Rattle.binary64.proofs.SignedOrder.{neg_le}
@@ -34,10 +34,10 @@ abs_neg (fin s m e) = refl
 not_above_abs : (x : Float) → is_nan x ≡ false → T (le x (abs x))
 unfolding abs is_nan
 not_above_abs nan h = absurd (true≢false h)
-not_above_abs (inf false) h = subst T (sym (le_reflexive (inf false) refl)) tt
-not_above_abs (inf true) h = subst T (sym (le_of_not_lt (inf true) (inf false) refl refl (signs_apart infinite infinite))) tt
-not_above_abs (fin false m e) h = subst T (sym (le_reflexive (fin false m e) refl)) tt
-not_above_abs (fin true m e) h = subst T (sym (le_of_not_lt (fin true m e) (fin false m e) refl refl (signs_apart (number m e) (number m e)))) tt
+not_above_abs (inf false) h = le_refl (inf false) tt
+not_above_abs (inf true) h = le_of_not-lt (inf false) (inf true) tt tt (T_from_false _ (signs_apart infinite infinite))
+not_above_abs (fin false m e) h = le_refl (fin false m e) tt
+not_above_abs (fin true m e) h = le_of_not-lt (fin false m e) (fin true m e) tt tt (T_from_false _ (signs_apart (number m e) (number m e)))
 
 -- ---- bounds
 pub abs_bounded_finite : (x b : Float) → T (finite b) → T (le (abs x) b) → T (finite x)
@@ -58,7 +58,7 @@ abs_within x b least most = go (abs_either x)
     go (inr e) = rw e (subst (λ (z : Float). T (le (neg x) z)) (neg_neg b) (neg_le (neg b) x least))
 
 pub abs_from_above : (x b : Float) → T (le b x) → T (le b (abs x))
-abs_from_above x b h = le_transitive b x (abs x) h (not_above_abs x (le_right_number b x (is_true (le b x) h)))
+abs_from_above x b h = le_trans b x (abs x) h (not_above_abs x (is_false (is_nan x) (le_right b x h)))
 
 pub abs_from_below : (x b : Float) → T (le x (neg b)) → T (le b (abs x))
 abs_from_below x b h =

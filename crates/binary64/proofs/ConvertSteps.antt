@@ -1,11 +1,12 @@
 -- A value beyond the range of h bits and a sign is held at the nearer end. Assumes nothing.
 use Rattle.std.proofs.Common.{◌≡◌, ℕ, ◌+◌, ◌-◌, ◌*◌, ◌/◌, ◌^◌, ◌<◌, ◌≤◌, min, true, false, ltb, ℤ, pos, negsuc, neg_ℤ, sym, refl, ap, ◌∙◌, true≢false, zero-lt-suc, mul-pos, one-mul, le-div_iff_mul-le, mul-one, arith, pow_pos, ltb-false}
 use mathlib.Core.Bool.{false≢true}
+use native.Mathlib.Nat.{min-eq_right}
 use lib.Pow.{suc_ones}
 use lib.Ieee.{Float, nan, inf, fin, lt, le, ne, up, down, to_signed}
 use lib.Ieee.Compare.{nan_differs}
 use lib.Ieee.Fits.{down_pos}
-use Rattle.booleans.proofs.Booleans.{or_left_fails}
+use Rattle.std.proofs.lemmas.Bool.{or_parts}
 
 -- a magnitude n / d of 2 ^ h or more, by the products of the comparison
 reaches : (h n d : ℕ) → 0 < d → 1 * 2 ^ h * d ≤ n * 1 → 2 ^ h ≤ n / d
@@ -40,10 +41,7 @@ unfolding le to_signed
 held_low h nan a b = absurd (false≢true b)
 held_low h (inf true) a b = least h
 held_low h (inf false) a b = absurd (true≢false a)
-held_low h (fin false m e) a b = absurd (not_both_zero (1 * 2 ^ h * down e) (m * up e * 1) (or_left_fails _ _ a) (omega (arith, end_positive h e)))
+held_low h (fin false m e) a b = absurd (not_both_zero (1 * 2 ^ h * down e) (m * up e * 1) (or_parts _ _ a).0 (omega (arith, end_positive h e)))
 held_low h (fin true m e) a b =
-    least h ∙ ap (λ (n : ℕ). neg_ℤ (pos n)) (capped (m * up e / down e) (2 ^ h)
-    (reaches h (m * up e) (down e) (down_pos e) (ltb-false (m * up e * 1) (1 * 2 ^ h * down e) (or_left_fails _ _ a))))
-  where
-    capped : (q k : ℕ) → k ≤ q → k ≡ min q k
-    capped q k l = omega arith
+    least h ∙ ap (λ (n : ℕ). neg_ℤ (pos n)) (sym (min-eq_right
+    (reaches h (m * up e) (down e) (down_pos e) (ltb-false (m * up e * 1) (1 * 2 ^ h * down e) (or_parts _ _ a).0))))

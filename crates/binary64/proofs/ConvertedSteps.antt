@@ -1,9 +1,9 @@
 -- The whole answer of a conversion, by the tests that the code makes, and what a caller reads in it. Assumes nothing.
-use Rattle.std.proofs.Common.{◌≡◌, ℕ, zero, suc, ◌+◌, ◌-◌, ◌*◌, ◌/◌, ◌%◌, ◌^◌, ◌<◌, ◌≤◌, Bool, true, false, ◌||◌, T, eqb, ◌⊎◌, ℤ, pos, negsuc, sym, refl, ap, ◌∙◌, subst, inl, inr, ⊎_elim, add-zero, zero-lt-suc, add-mul, mul-pos, div-add-mod', zero-mul, mul-one, div-le_self, mul_right_comm, arith, le→leb, lt→ltb, to_z-of_z, w64, to_z, of_z, eq-eqb, ne_eqb, leb-false, leb-true}
+use Rattle.std.proofs.Common.{◌≡◌, ℕ, zero, suc, ◌+◌, ◌-◌, ◌*◌, ◌/◌, ◌%◌, ◌^◌, ◌<◌, ◌≤◌, Bool, true, false, ◌||◌, T, eqb, ◌⊎◌, ℤ, pos, negsuc, sym, refl, ap, ◌∙◌, subst, inl, inr, ⊎_elim, add-zero, zero-lt-suc, add-mul, mul-pos, div-add-mod', zero-mul, mul-one, div-le_self, mul_right_comm, arith, to_z-of_z, w64, to_z, of_z, eq-eqb, ne_eqb, leb-true}
 use mathlib.Core.Bool.{beq, or-true, false≢true}
 use native.Mathlib.Nat.{mod-one}
 use lib.Signed.{le_z}
-use lib.Ieee.{Float, nan, inf, fin, binary64, up, down, round, level, lt, le, eq, is_nan, of_int, to_signed, in_float, fits}
+use lib.Ieee.{Float, nan, inf, fin, binary64, up, down, round, level, lt, le, eq, is_nan, of_int, to_signed, fits}
 use lib.Ieee.Casts.{to_signed_in}
 use lib.Ieee.Exact.{HasValue}
 use lib.Ieee.Fits.{down_pos}
@@ -128,12 +128,6 @@ module _ (x : Float) (t : T (fits binary64 x)) (above : lt x above_range ≡ tru
 
   pub other_cut : eq (of_int binary64 (to_i64 x)) x ≡ false → Cut ≡ conversion_of x
   other_cut e = case_only x Cut (least, above, sym (kept_by_number x t above least) ∙ e)
-
--- and a number that is not far is a double exactly
-pub near_exact : (z : ℤ) → le_z (pos (2 ^ 53)) z ≡ false → le_z z (negsuc (2 ^ 53 - 1)) ≡ false → T (in_float binary64 z)
-unfolding in_float
-near_exact (pos n) a b = le→leb n (2 ^ 53) (let l = leb-false (2 ^ 53) n a in omega arith)
-near_exact (negsuc n) a b = lt→ltb n (2 ^ 53) (let l = leb-false (2 ^ 53 - 1) n b in omega arith)
 
 -- ---- what a caller reads in the answer: the case
 pub how_of : (x : Float) (r : Converted) → r ≡ converted_of x → r.how ≡ conversion_of x

@@ -1,5 +1,5 @@
 -- Laws of rounding to an integral value. Assumes nothing.
-use Rattle.std.proofs.Common.{◌≡◌, ℕ, zero, suc, ◌+◌, ◌*◌, ◌/◌, ◌%◌, ◌^◌, ◌<◌, ◌≤◌, Bool, true, false, cond, not, ◌&&◌, T, eqb, ltb, leb, ℤ, pos, negsuc, sym, refl, ap, ◌∙◌, subst, le_trans, le_of_eq, add-zero, zero-lt-suc, mul_assoc, add-mul, add_comm, lt_of_mul-lt-mul_right, mul-pos, div-add-mod', le-div_iff_mul-le, zero-mul, mul-one, div-le_self, mul_right_comm, div-mul-le_self, le_of_mul-le-mul_right, div-one, arith, ltb→lt, pow_pos, pow-add, shl_lt}
+use Rattle.std.proofs.Common.{◌≡◌, ℕ, zero, suc, ◌+◌, ◌-◌, ◌*◌, ◌/◌, ◌%◌, ◌^◌, ◌<◌, ◌≤◌, Bool, true, false, cond, not, ◌&&◌, T, eqb, ltb, leb, ℤ, pos, negsuc, sym, refl, ap, ◌∙◌, subst, le_trans, le_of_eq, add-zero, zero-lt-suc, mul_assoc, add-mul, add_comm, lt_of_mul-lt-mul_right, mul-pos, div-add-mod', le-div_iff_mul-le, zero-mul, mul-one, div-le_self, mul_right_comm, div-mul-le_self, le_of_mul-le-mul_right, div-one, div-lt_iff_lt-mul, mod-lt, le_antisymm, arith, ltb→lt, pow_pos, pow-add, shl_lt}
 use native.Mathlib.Nat.{mod-one, lt-div-mul-add}
 use lib.Dec.{eqb-suc-zero}
 use lib.Ieee.{Float, nan, inf, fin, Format, binary64, prec, emax, low, up, down, round, neg, le, fits, is_nan}
@@ -7,6 +7,8 @@ use lib.Ieee.Fits.{down_pos, and_l, and_r, neg-fits, round-fits}
 use lib.Ieee.Nearest.{div_same}
 use lib.Ieee.Exact.{HasValue, round_exact}
 use lib.Ieee.Back.{round_whole, whole_unique}
+use Rattle.std.specs.Float as Float
+use Rattle.std.specs.Float.{ratio_ceil}
 use Rattle.binary64.specs.Integral.{Toward, negative, away_from_zero, whole_magnitude, round_to_integral, floor_of, ceil_of}
 use Rattle.binary64.proofs.Negation.{neg_neg, neg_value, neg_round}
 use Rattle.binary64.proofs.SignedOrder.{SignedLe, signed_of_le, le_of_signed, neg_le}
@@ -53,6 +55,33 @@ whole_same away a c n d C D h =
         let y : n * c ≡ n / d * d * c + n % d * c = ap (λ (k : ℕ). k * c) (sym (div-add-mod' n d)) ∙ add-mul (n / d * d) (n % d) c in
         let z : a / c * c * d ≡ n / d * d * c = ap (λ (k : ℕ). k * c * d) q ∙ mul_right_comm (n / d) c d in
         omega arith
+
+-- ---- it is what the library's rounding gives
+-- The next whole number up, as the library writes it.
+away_is_ceil : (n d : ℕ) → 0 < d → whole_magnitude true n d ≡ ratio_ceil n d
+away_is_ceil n d D = le_antisymm (at_least (n % d) refl) (at_most (n % d) refl)
+  where
+    at_least : (r : ℕ) → n % d ≡ r → n / d + cond (not (eqb r 0)) 1 0 ≤ (n + d - 1) / d
+    at_least zero h = (le-div_iff_mul-le D).1 (omega (arith, div-add-mod' n d))
+    at_least (suc r) h = rw (eqb-suc-zero r) ((le-div_iff_mul-le D).1 (omega (arith, div-add-mod' n d)))
+
+    at_most : (r : ℕ) → n % d ≡ r → (n + d - 1) / d ≤ n / d + cond (not (eqb r 0)) 1 0
+    at_most zero h = omega (arith, (div-lt_iff_lt-mul {x = n + d - 1} {y = n / d + 1} D).1 (omega (arith, div-add-mod' n d)))
+    at_most (suc r) h = rw (eqb-suc-zero r) (omega (arith, (div-lt_iff_lt-mul {x = n + d - 1} {y = n / d + 1 + 1} D).1 (omega (arith, div-add-mod' n d, mod-lt n D))))
+
+pub floor_is_library : (x : Float) → floor_of x ≡ Float.floor binary64 x
+unfolding round_to_integral Float.round_with
+floor_is_library nan = refl
+floor_is_library (inf s) = refl
+floor_is_library (fin false m e) = ap (λ (n : ℕ). round binary64 false n 1) (add-zero (m * up e / down e))
+floor_is_library (fin true m e) = ap (λ (n : ℕ). round binary64 true n 1) (away_is_ceil (m * up e) (down e) (down_pos e))
+
+pub ceil_is_library : (x : Float) → ceil_of x ≡ Float.ceil binary64 x
+unfolding round_to_integral Float.round_with
+ceil_is_library nan = refl
+ceil_is_library (inf s) = refl
+ceil_is_library (fin false m e) = ap (λ (n : ℕ). round binary64 false n 1) (away_is_ceil (m * up e) (down e) (down_pos e))
+ceil_is_library (fin true m e) = ap (λ (n : ℕ). round binary64 true n 1) (add-zero (m * up e / down e))
 
 -- ---- it is a value of the format
 -- What a format holds has at most `prec` binary digits and lies below 2 ^ (emax + 1).

@@ -1,13 +1,11 @@
 pub mod Nan
 pub mod Tests
 pub mod FloatOrder
-pub mod LessThan
 pub mod SignMagnitude
 pub mod TotalOrder
 pub mod Negation
 pub mod SignedOrder
 pub mod Integral
-pub mod FloorSteps
 pub mod Convert
 pub mod ConvertSteps
 pub mod ConversionCases

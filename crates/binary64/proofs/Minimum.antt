@@ -2,10 +2,12 @@
 use Rattle.std.proofs.Common.{◌≡◌, Bool, true, false, cond, ◌&&◌, ◌||◌, ◌⊎◌, pos, sym, refl, ◌∙◌, inl, inr, true≢false}
 use mathlib.Core.Bool.{false≢true}
 use lib.Ieee.{Float, nan, inf, fin, lt, eq, is_nan}
-use Rattle.booleans.proofs.Booleans.{and_split, or_either, or_left_fails}
+use lib.Ieee.Bits.{is_true}
+use Rattle.std.proofs.lemmas.Bool.{and_parts, or_cases, or_parts, false_from_ne_true}
+use Rattle.std.proofs.lemmas.Float as float
+use Rattle.std.proofs.lemmas.Float.{T_from_true}
 use Rattle.binary64.specs.Minimum.{is_zero, below_or_negative_zero, minimum_number, SameButZeroSign}
-use Rattle.binary64.proofs.FloatOrder.{lt_left_number}
-use Rattle.binary64.proofs.LessThan.{lt_irreflexive, lt_transitive}
+use Rattle.binary64.proofs.FloatOrder.{lt_left_number, lt_irreflexive}
 use Rattle.binary64.proofs.Zeros.{zero_number, zeros_equal, zeros_alike, same_above, same_nan, same_zero, same_symmetric, same_transitive}
 
 -- What holds of the operand that each way of the definition gives holds of the minimum.
@@ -42,22 +44,20 @@ minimum_skips_nan (fin s m e) = (refl, refl)
 -- ---- what "less" says, for this operation
 less_number : (y x : Float) → below_or_negative_zero y x ≡ true → is_nan y ≡ false
 unfolding below_or_negative_zero
-less_number y x h = or_either (lt y x) (is_zero true y && is_zero false x) h (λ l. lt_left_number y x l) (λ z. zero_number true y (and_split (is_zero true y) (is_zero false x) z).0)
+less_number y x h = elim (or_cases (lt y x) (is_zero true y && is_zero false x) h) [ inl l ↦ lt_left_number y x l | inr z ↦ zero_number true y (and_parts (is_zero true y) (is_zero false x) z).0 ]
 
 not_less : (y x : Float) → below_or_negative_zero y x ≡ false → lt y x ≡ false
 unfolding below_or_negative_zero
-not_less y x h = or_left_fails (lt y x) (is_zero true y && is_zero false x) h
+not_less y x h = (or_parts (lt y x) (is_zero true y && is_zero false x) h).0
 
 -- What is not below x is not below y, where y is less than x.
 less_below : (z y x : Float) → below_or_negative_zero y x ≡ true → lt z x ≡ false → lt z y ≡ false
 unfolding below_or_negative_zero
 less_below z y x h k =
-    or_either (lt y x) (is_zero true y && is_zero false x) h (λ l. decide (lt z y) refl l)
-    (λ zeros. let both = and_split (is_zero true y) (is_zero false x) zeros in (zeros_alike true false y x z both.0 both.1).0 ∙ k)
-  where
-    decide : (b : Bool) → lt z y ≡ b → lt y x ≡ true → lt z y ≡ false
-    decide true g l = absurd (false≢true (sym k ∙ lt_transitive z y x g l))
-    decide false g l = g
+    elim (or_cases (lt y x) (is_zero true y && is_zero false x) h) [
+      | inl l ↦ false_from_ne_true (lt z y) (λ g. false≢true (sym k ∙ is_true _ (float.lt_trans z y x (T_from_true _ g) (T_from_true _ l))))
+      | inr zeros ↦ let both = and_parts (is_zero true y) (is_zero false x) zeros in (zeros_alike true false y x z both.0 both.1).0 ∙ k
+    ]
 
 -- x is the minimum where it is a number and y neither equals it nor is below it: a NaN, or above it.
 pub first_is_minimum : (x y : Float) → is_nan x ≡ false → eq x y ≡ false → lt y x ≡ false → x ≡ minimum_number x y
@@ -65,7 +65,7 @@ unfolding minimum_number below_or_negative_zero
 first_is_minimum x y number apart above = rw (number, above) (decide (is_zero true y && is_zero false x) refl)
   where
     decide : (b : Bool) → (is_zero true y && is_zero false x) ≡ b → x ≡ cond b y x
-    decide true zeros = let both = and_split (is_zero true y) (is_zero false x) zeros in absurd (true≢false (sym (zeros_equal false true x y both.1 both.0) ∙ apart))
+    decide true zeros = let both = and_parts (is_zero true y) (is_zero false x) zeros in absurd (true≢false (sym (zeros_equal false true x y both.1 both.0) ∙ apart))
     decide false zeros = refl
 
 -- ---- NaN is skipped
@@ -74,11 +74,7 @@ minimum_nan x y = minimum_by (λ (r : Float). is_nan r ≡ (is_nan x && is_nan y
 
 -- ---- no operand is below the minimum
 nan_not_below : (x y : Float) → is_nan x ≡ true → lt x y ≡ false
-nan_not_below x y e = decide (lt x y) refl
-  where
-    decide : (b : Bool) → lt x y ≡ b → lt x y ≡ false
-    decide true h = absurd (true≢false (sym e ∙ lt_left_number x y h))
-    decide false h = h
+nan_not_below x y e = false_from_ne_true (lt x y) (λ h. true≢false (sym e ∙ lt_left_number x y h))
 
 pub first_not_below : (x y : Float) → lt x (minimum_number x y) ≡ false
 first_not_below x y = minimum_by (λ (r : Float). lt x r ≡ false) x y (λ e. nan_not_below x y e) (λ e f. less_below x y x f (lt_irreflexive x)) (λ e f. lt_irreflexive x)
@@ -97,7 +93,7 @@ unfolding minimum_number below_or_negative_zero
 minimum_same x x' y h = go (is_nan x) (is_nan x') (lt y x) (lt y x') (is_zero true y && is_zero false x) (is_zero true y && is_zero false x') (same_nan x x' h) (same_above x x' y h) refl refl
   where
     zeros : (z : Float) → (is_zero true y && is_zero false z) ≡ true → (is_zero true y ≡ true) × (is_zero false z ≡ true)
-    zeros z e = and_split (is_zero true y) (is_zero false z) e
+    zeros z e = and_parts (is_zero true y) (is_zero false z) e
 
     go : (a a' b b' c c' : Bool) → a ≡ a' → b ≡ b' → (is_zero true y && is_zero false x) ≡ c → (is_zero true y && is_zero false x') ≡ c'
         → SameButZeroSign (cond a y (cond (b || c) y x)) (cond a' y (cond (b' || c') y x'))
@@ -121,7 +117,7 @@ earlier_same x y = go (is_nan x) (lt y x) (is_zero true y && is_zero false x) re
     go true b c z = inl refl
     go false true c z = inl refl
     go false false false z = inl refl
-    go false false true z = let both = and_split (is_zero true y) (is_zero false x) z in inr (true, false, both.0, both.1)
+    go false false true z = let both = and_parts (is_zero true y) (is_zero false x) z in inr (true, false, both.0, both.1)
 
 -- So with two operations in turn, each of which differs from minimum_number in the sign of a zero at most.
 pub minima_same : (first second : Float → Float → Float) → ((x y : Float) → SameButZeroSign (minimum_number x y) (first x y)) → ((x y : Float) → SameButZeroSign (minimum_number x y) (second x y))

@@ -1,18 +1,17 @@
 -- minimum_number by the total order: its rank is the lesser of its operands' ranks, so that neither order nor grouping matters (`minimum_rank`, `minimum_commutes`, `minimum_associates`).
 -- Of two numbers the lesser has the lesser rank, −0 a lesser one than +0, and every number a lesser one than NaN. Assumes nothing.
-use Rattle.std.proofs.Common.{◌≡◌, ℕ, ◌+◌, ◌-◌, ◌*◌, ◌/◌, ◌^◌, ◌<◌, ◌≤◌, min, Bool, true, false, cond, ◌&&◌, ◌||◌, T, eqb, ◌⊎◌, ℤ, pos, sym, refl, ap, ◌∙◌, subst, inl, inr, le_trans, le_of_lt, lt_irrefl, mul_right_comm, not-le_of_lt, lit<, eqb-true}
+use Rattle.std.proofs.Common.{◌≡◌, ℕ, ◌+◌, ◌-◌, ◌*◌, ◌/◌, ◌^◌, ◌<◌, ◌≤◌, min, Bool, true, false, cond, ◌&&◌, ◌||◌, T, eqb, ◌⊎◌, ℤ, pos, sym, refl, ap, ◌∙◌, subst, inl, inr, le_of_lt, lt_irrefl, mul_right_comm, not-le_of_lt, arith, lit<, eqb-true}
 use mathlib.Core.Bool.{false≢true}
-use native.Mathlib.Nat.{min_comm, min-eq_left, min-eq_right}
+use native.Mathlib.Nat.{min_comm, min-eq_left, min-eq_right, eq_of_mul-eq-mul_right}
 use lib.Ieee.{Float, nan, inf, fin, binary64, up, down, size, prec, hid, top, lt, le, eq, is_nan, fits, to_bits, nan_bits}
 use lib.Ieee.Bits.{of_bits-to_bits, to_bits-lt, nan_bits_is}
 use lib.Ieee.Fits.{up_pos, down_pos}
 use lib.Ieee.Nearest.{div_same}
-use Rattle.booleans.proofs.Booleans.{and_split}
+use Rattle.std.proofs.lemmas.Bool.{and_parts}
 use Rattle.binary64.specs.TotalOrder.{total_order, rank_of_bits, rank_of}
 use Rattle.binary64.specs.Minimum.{is_zero, below_or_negative_zero, minimum_number}
 use Rattle.binary64.proofs.Nan.{only_nan}
 use Rattle.binary64.proofs.Tests.{Tested, tested}
-use Rattle.binary64.proofs.LessThan.{factor_zero}
 use Rattle.binary64.proofs.TotalOrder.{rank_of_strictly_below, rank_of_lt, le_of_rank, rank_of_injective}
 use Rattle.binary64.proofs.Zeros.{zero_is}
 use Rattle.binary64.proofs.Minimum.{minimum_by}
@@ -30,7 +29,10 @@ both_zero : (m : ℕ) (e : ℤ) (n : ℕ) (d : ℤ) → (eqb (m * up e * down d)
 both_zero m e n d h =
     let first : m * up e * down d ≡ 0 = eqb-true (m * up e * down d) 0 h.1 in
     let second : n * up d * down e ≡ 0 = sym (eqb-true (m * up e * down d) (n * up d * down e) h.0) ∙ first in
-    rw (factor_zero m (up e) (up_pos e) (factor_zero (m * up e) (down d) (down_pos d) first), factor_zero n (up d) (up_pos d) (factor_zero (n * up d) (down e) (down_pos e) second)) refl
+    rw (no_digits m (up e) (down d) (up_pos e) (down_pos d) first, no_digits n (up d) (down e) (up_pos d) (down_pos e) second) refl
+  where
+    no_digits : (k a b : ℕ) → 0 < a → 0 < b → k * a * b ≡ 0 → k ≡ 0
+    no_digits k a b p q h = eq_of_mul-eq-mul_right a p k 0 (omega (arith, eq_of_mul-eq-mul_right b q (k * a) 0 (omega arith)))
 
 -- −0 and +0
 abbrev ZerosApart : Float → Float → Type 0
@@ -47,13 +49,13 @@ equal_cases (inf false) (inf false) h = inl refl
 equal_cases (inf s) (fin t n d) h = absurd (false≢true h)
 equal_cases (fin s m e) nan h = absurd (false≢true h)
 equal_cases (fin s m e) (inf t) h = absurd (false≢true h)
-equal_cases (fin true m e) (fin true n d) h = inl (same_encoding true m e n d (eqb-true (m * up e * down d) (n * up d * down e) (and_split _ _ h).0))
-equal_cases (fin false m e) (fin false n d) h = inl (same_encoding false m e n d (eqb-true (m * up e * down d) (n * up d * down e) (and_split _ _ h).0))
-equal_cases (fin true m e) (fin false n d) h = inr (inl (both_zero m e n d (and_split _ _ h)))
-equal_cases (fin false m e) (fin true n d) h = inr (inr (swapped (eqb m 0) (eqb n 0) (both_zero m e n d (and_split _ _ h))))
+equal_cases (fin true m e) (fin true n d) h = inl (same_encoding true m e n d (eqb-true (m * up e * down d) (n * up d * down e) (and_parts _ _ h).0))
+equal_cases (fin false m e) (fin false n d) h = inl (same_encoding false m e n d (eqb-true (m * up e * down d) (n * up d * down e) (and_parts _ _ h).0))
+equal_cases (fin true m e) (fin false n d) h = inr (inl (both_zero m e n d (and_parts _ _ h)))
+equal_cases (fin false m e) (fin true n d) h = inr (inr (swapped (eqb m 0) (eqb n 0) (both_zero m e n d (and_parts _ _ h))))
   where
     swapped : (p q : Bool) → (p && q) ≡ true → (q && p) ≡ true
-    swapped p q e = let both = and_split p q e in rw (both.0, both.1) refl
+    swapped p q e = let both = and_parts p q e in rw (both.0, both.1) refl
 
 same_rank : (y x : Float) → to_bits binary64 y ≡ to_bits binary64 x → rank_of y ≡ rank_of x
 unfolding rank_of
@@ -65,7 +67,7 @@ unfolding rank_of
 negative_zero_first = lit< tt
 
 zeros_ranked : (y x : Float) → T (fits binary64 y) → T (fits binary64 x) → ZerosApart y x → rank_of y < rank_of x
-zeros_ranked y x fy fx h = let both = and_split (is_zero true y) (is_zero false x) h in rw (zero_is true y fy both.0, zero_is false x fx both.1) negative_zero_first
+zeros_ranked y x fy fx h = let both = and_parts (is_zero true y) (is_zero false x) h in rw (zero_is true y fy both.0, zero_is false x fx both.1) negative_zero_first
 
 nan_last : (x : Float) → T (fits binary64 x) → is_nan x ≡ false → rank_of x < rank_of nan
 unfolding rank_of total_order is_nan
@@ -132,21 +134,10 @@ minimum_commutes x y fx fy =
     rank_of_injective (minimum_number x y) (minimum_number y x) (minimum_fits x y fx fy) (minimum_fits y x fy fx)
     (minimum_rank x y fx fy ∙ min_comm (rank_of x) (rank_of y) ∙ sym (minimum_rank y x fy fx))
 
-min_assoc : (a b c : ℕ) → min (min a b) c ≡ min a (min b c)
-min_assoc a b c = go (tested a b) (tested b c)
-  where
-    go : Tested a b → Tested b c → min (min a b) c ≡ min a (min b c)
-    go (inl h) (inl k) = ap (λ (n : ℕ). min n c) (min-eq_left h.0) ∙ min-eq_left (le_trans h.0 k.0) ∙ sym (min-eq_left h.0) ∙ ap (min a) (sym (min-eq_left k.0))
-    go (inl h) (inr k) = ap (λ (n : ℕ). min n c) (min-eq_left h.0) ∙ ap (min a) (sym (min-eq_right (le_of_lt k.0)))
-    go (inr h) (inl k) = ap (λ (n : ℕ). min n c) (min-eq_right (le_of_lt h.0)) ∙ min-eq_left k.0 ∙ sym (min-eq_right (le_of_lt h.0)) ∙ ap (min a) (sym (min-eq_left k.0))
-    go (inr h) (inr k) =
-        let last : c ≤ a = le_trans (le_of_lt k.0) (le_of_lt h.0) in
-        ap (λ (n : ℕ). min n c) (min-eq_right (le_of_lt h.0)) ∙ min-eq_right (le_of_lt k.0) ∙ sym (min-eq_right last) ∙ ap (min a) (sym (min-eq_right (le_of_lt k.0)))
-
 pub minimum_associates : (x y z : Float) → T (fits binary64 x) → T (fits binary64 y) → T (fits binary64 z) → minimum_number (minimum_number x y) z ≡ minimum_number x (minimum_number y z)
 minimum_associates x y z fx fy fz =
     let front = minimum_fits x y fx fy in
     let back = minimum_fits y z fy fz in
     rank_of_injective (minimum_number (minimum_number x y) z) (minimum_number x (minimum_number y z)) (minimum_fits (minimum_number x y) z front fz) (minimum_fits x (minimum_number y z) fx back)
-    (minimum_rank (minimum_number x y) z front fz ∙ ap (λ (r : ℕ). min r (rank_of z)) (minimum_rank x y fx fy) ∙ min_assoc (rank_of x) (rank_of y) (rank_of z)
+    (minimum_rank (minimum_number x y) z front fz ∙ ap (λ (r : ℕ). min r (rank_of z)) (minimum_rank x y fx fy) ∙ (let grouped : min (min (rank_of x) (rank_of y)) (rank_of z) ≡ min (rank_of x) (min (rank_of y) (rank_of z)) = omega arith in grouped)
     ∙ sym (minimum_rank x (minimum_number y z) fx back ∙ ap (min (rank_of x)) (minimum_rank y z fy fz)))

@@ -1,6 +1,7 @@
 -- Data that are no NaN are ordered as their encodings in sign and magnitude, in either format (`lt_bits`). Assumes nothing.
 use Rattle.std.proofs.Common.{◌≡◌, ℕ, zero, suc, ◌+◌, ◌-◌, ◌*◌, ◌/◌, ◌%◌, ◌^◌, ◌<◌, ◌≤◌, Bool, true, false, cond, eqb, leb, ◌⊎◌, sym, refl, ap, ◌∙◌, subst, ap₂, subst₂, inl, inr, le_of_eq, le_refl, lt_of_lt_of_le, le_of_suc-le-suc, le-add_right, not-suc-le-zero, le_of_lt, mod-lt, mul_assoc, mul_comm, div-lt_iff_lt-mul, eq-zero-or-pos, mul-le-mul, eq-or-lt_of_le, mul-lt-mul_of_pos_right, mul-pos, div-add-mod', zero-mul, mul-one, mul_right_comm, mul-div_cancel, arith, lit<, pow_pos, pow_mono, ltb-false, le-ltb, lt-ltb, ne_eqb}
 use native.Mathlib.Nat.{mul-mod_left, mod-mod_of_dvd, dvd-mul_right, pow-succ'}
+use lib.Arith.{add-lt_cancel_left}
 use lib.Pow.{shr_mono}
 use lib.Ieee.{Float, nan, inf, fin, Format, binary32, binary64, prec, low, up, down, below, lt, odd, hid, ones, top, of_fields, of_bits, nan_bits}
 use lib.Ieee.Bits.{nan_bits_above}
@@ -95,13 +96,10 @@ magnitude f p = units_of f (p / hid f) (p % hid f)
 magnitude_increasing : (f : Format) (p q : ℕ) → p < q → magnitude f p < magnitude f q
 magnitude_increasing f p q h = go (eq-or-lt_of_le (shr_mono (prec f - 1) (le_of_lt h)))
   where
-    lower : (x y k : ℕ) → k + x < k + y → x < y
-    lower x y k l = omega arith
-
     go : (p / hid f ≡ q / hid f) ⊎ (p / hid f < q / hid f) → magnitude f p < magnitude f q
     go (inl e) =
         rw (← e) (units_digits f (p / hid f) (p % hid f) (q % hid f)
-        (lower (p % hid f) (q % hid f) (p / hid f * hid f)
+        (add-lt_cancel_left (p / hid f * hid f)
         (subst₂ (λ (x y : ℕ). x < y) (sym (div-add-mod' p (hid f))) (sym (div-add-mod' q (hid f)) ∙ ap (λ (x : ℕ). x * hid f + q % hid f) (sym e)) h)))
     go (inr l) = lt_of_lt_of_le (units_below f (p / hid f) (p % hid f) (mod-lt p (pow_pos (prec f - 1)))) (units_reach f (p / hid f) (q / hid f) (q % hid f) l)
 

@@ -1,13 +1,14 @@
 -- The order of two finite values of either sign, by the fractions that they equal. Assumes nothing.
-use Rattle.std.proofs.Common.{◌≡◌, ℕ, zero, suc, ◌+◌, ◌*◌, ◌<◌, ◌≤◌, Bool, true, false, not, ◌&&◌, ◌||◌, T, eqb, ltb, ℤ, pos, sym, refl, ap, ◌∙◌, subst, inl, inr, le_trans, le_of_eq, le_refl, le_of_lt, mul-le-mul_right, eq-or-lt_of_le, mul-zero, zero-mul, mul-one, le_of_mul-le-mul_right, arith, eqb→eq, ltb→lt, lt→ltb}
+use Rattle.std.proofs.Common.{◌≡◌, ℕ, zero, suc, ◌+◌, ◌*◌, ◌<◌, ◌≤◌, Bool, true, false, not, ◌&&◌, ◌||◌, T, eqb, ltb, ℤ, pos, sym, refl, ap, ◌∙◌, subst, inl, inr, le_trans, le_of_eq, le_refl, le_of_lt, mul-le-mul_right, eq-or-lt_of_le, mul-zero, zero-mul, mul-one, le_of_mul-le-mul_right, arith, eqb→eq, ltb→lt}
 use lib.Arith.{le-zero}
 use lib.Ieee.{Float, inf, fin, up, down, unlike, below, level, le, neg, nan}
 use lib.Ieee.Exact.{HasValue}
-use lib.Ieee.Fits.{and_i, and_l, and_r, eq→eqb, down_pos}
+use lib.Ieee.Fits.{and_l, and_r, down_pos}
 use lib.Ieee.Order.{transfer}
 use lib.Ieee.Positive.{positive}
 use mir.Facts.{or_yes}
-use Rattle.booleans.proofs.Booleans.{or_l, or_r}
+use Rattle.std.proofs.lemmas.Bool.{and_from, or_left, or_right, lt-ltb, eq-eqb}
+use Rattle.std.proofs.lemmas.Float.{T_from_true}
 
 -- ±a is at most ±b; the two zeros are equal.
 abbrev pub SignedLe : Bool → ℕ → Bool → ℕ → Type 0
@@ -57,7 +58,7 @@ at_most_says a b p q same h =
 
 at_most_passes : (a b p q : ℕ) → (a ≡ b → p ≡ q) → a ≤ b → T (ltb a b || (eqb p q && true))
 at_most_passes a b p q same h =
-    elim (eq-or-lt_of_le h) [ inl e ↦ or_r (ltb a b) (eqb p q && true) (and_i (eqb p q) true (eq→eqb (same e)) tt) | inr l ↦ or_l (ltb a b) (eqb p q && true) (lt→ltb a b l) ]
+    elim (eq-or-lt_of_le h) [ inl e ↦ T_from_true _ (or_right (ltb a b) (eqb p q && true) (and_from (eqb p q) true (eq-eqb p q (same e)) refl)) | inr l ↦ T_from_true _ (or_left (ltb a b) (eqb p q && true) (lt-ltb a b l)) ]
 
 test_says : (s : Bool) (a : ℕ) (t : Bool) (b : ℕ) → T (below s a t b || level s a t b) → SignedLe s a t b
 test_says false a false b h = at_most_says a b a b (λ e. e) h
@@ -69,8 +70,8 @@ test_passes : (s : Bool) (a : ℕ) (t : Bool) (b : ℕ) → SignedLe s a t b →
 test_passes false a false b h = at_most_passes a b a b (λ e. e) h
 test_passes false a true b h = let p : a ≡ 0 = omega arith in let q : b ≡ 0 = omega arith in rw (p, q) tt
 test_passes true zero false zero h = tt
-test_passes true zero false (suc b) h = or_l (ltb 0 (0 + suc b)) _ (lt→ltb 0 (0 + suc b) (omega arith))
-test_passes true (suc a) false b h = or_l (ltb 0 (suc a + b)) _ (lt→ltb 0 (suc a + b) (omega arith))
+test_passes true zero false (suc b) h = T_from_true _ (or_left (ltb 0 (0 + suc b)) _ (lt-ltb 0 (0 + suc b) (omega arith)))
+test_passes true (suc a) false b h = T_from_true _ (or_left (ltb 0 (suc a + b)) _ (lt-ltb 0 (suc a + b) (omega arith)))
 test_passes true a true b h = at_most_passes b a a b sym h
 
 -- ---- other fractions of the same value

@@ -1,13 +1,13 @@
 -- The whole part of a positive number below 2 ^ 53 is its digits, with the leading one, shifted by what the exponent's field says; below 1 they are shifted out. Assumes nothing.
-use Rattle.std.proofs.Common.{◌≡◌, ℕ, ◌+◌, ◌-◌, ◌*◌, ◌/◌, ◌%◌, ◌^◌, ◌<◌, ◌≤◌, min, Bool, true, false, not, T, leb, pos, sym, refl, ap, ◌∙◌, subst, lt_of_lt_of_le, le_of_suc-le-suc, mod-lt, mod-eq_of_lt, div-lt_iff_lt-mul, add_comm, le-div_iff_mul-le, arith, pow_pos, pow_mono, ltb-false, ltb-true, leb-false}
+use Rattle.std.proofs.Common.{◌≡◌, ℕ, ◌+◌, ◌-◌, ◌*◌, ◌/◌, ◌%◌, ◌^◌, ◌<◌, ◌≤◌, min, Bool, true, false, not, T, leb, pos, sym, refl, ap, ◌∙◌, subst, lt_of_lt_of_le, le_of_suc-le-suc, mod-lt, mod-eq_of_lt, div-lt_iff_lt-mul, add_comm, le-div_iff_mul-le, arith, lt→ltb, pow_pos, pow_mono, ltb-false, ltb-true, leb-false}
 use mathlib.Core.Bool.{false≢true}
 use native.Mathlib.Nat.{div-eq_of_lt}
 use lib.Bits.{bit_and, bit_or, and_mask, or_shifted_r}
-use lib.Ieee.{Float, fin, binary64, below, lt, fits, is_nan, of_bits, to_bits, nan_bits, to_unsigned}
+use lib.Ieee.{Float, nan, inf, fin, binary64, up, down, below, lt, fits, is_nan, of_bits, to_bits, nan_bits, to_unsigned}
+use lib.Ieee.Fits.{down_pos}
 use lib.Ieee.Bits.{of_bits-to_bits, nan_bits_is}
 use Rattle.std.proofs.num.Truncating.{cut_down, below_one}
 use Rattle.binary64.proofs.FloatOrder.{lt_right_number, lt_not_le, le_of_not_lt}
-use Rattle.binary64.proofs.FloorSteps.{truncation_asks}
 use Rattle.binary64.proofs.SignMagnitude.{lt_bits}
 
 abbrev plus_zero : Float
@@ -15,6 +15,18 @@ plus_zero = fin false 0 (pos 0)
 
 abbrev plus_one : Float
 plus_one = fin false 1 (pos 0)
+
+-- Below 2 ^ 53 a number is in the range of a truncation to a word.
+truncation_asks : (x : Float) → T (lt plus_zero x) → lt x (fin false 1 (pos 53)) ≡ true → T (lt (fin true 1 (pos 0)) x) × T (lt x (fin false 1 (pos 64)))
+unfolding lt
+truncation_asks (inf false) h g = absurd (false≢true g)
+truncation_asks (fin false m e) h g =
+    let p = down_pos e in
+    let l = ltb-true (m * up e * 1) (1 * 2 ^ 53 * down e) g in
+    (lt→ltb 0 (1 * 1 * down e + m * up e * 1) (omega arith), lt→ltb (m * up e * 1) (1 * 2 ^ 64 * down e) (omega arith))
+truncation_asks nan h g = elim h [ ]
+truncation_asks (inf true) h g = elim h [ ]
+truncation_asks (fin true m e) h g = elim h [ ]
 
 -- by a mask and an or, as the kit's truncation has them
 digits_masked : (b : ℕ) → bit_or (bit_and b (2 ^ 52 - 1)) (2 ^ 52) ≡ b % 2 ^ 52 + 2 ^ 52

@@ -1,6 +1,7 @@
 -- Whole numbers as doubles, and doubles as unsigned whole numbers: up to 2 ^ 53 the second undoes the first, `whole_converted`, and both keep the order. Assumes nothing.
-use Rattle.std.proofs.Common.{◌≡◌, ℕ, ◌+◌, ◌*◌, ◌/◌, ◌^◌, ◌<◌, ◌≤◌, true, false, T, pos, sym, refl, ap, ◌∙◌, subst, true≢false, zero-le, le_refl, div-one, arith}
-use native.Mathlib.Nat.{zero-div}
+use Rattle.std.proofs.Common.{◌≡◌, ℕ, ◌+◌, ◌*◌, ◌/◌, ◌^◌, ◌<◌, ◌≤◌, true, false, T, pos, ap, ◌∙◌, true≢false, zero-le, le_refl, div-one, arith}
+use native.Mathlib.Nat.{zero-div, eq_of_mul-eq-mul_right}
+use Rattle.std.proofs.lemmas.Float.{T_from_true, lt_of_lt_of_le}
 use lib.Ieee.{Float, inf, fin, binary64, up, down, lt, le, of_int, to_unsigned, nan}
 use lib.Ieee.Back.{round_whole}
 use lib.Ieee.Exact.{HasValue}
@@ -9,7 +10,6 @@ use lib.Ieee.Nearest.{div_mono, div_same}
 use lib.Ieee.Order.{le_of_values}
 use lib.Ieee.Positive.{positive, positive_of_value}
 use Rattle.binary64.specs.Convert.{whole}
-use Rattle.binary64.proofs.LessThan.{factor_zero, lt_le_transitive}
 use Rattle.binary64.proofs.SignedOrder.{signed_of_finite}
 
 -- ---- a whole number as a double (IEEE 754-2019, 5.4.1: convertFromInt)
@@ -43,7 +43,7 @@ to_unsigned_monotone w (fin true m e) y h = zero-le
 to_unsigned_monotone w (fin false m e) (inf false) h = omega arith
 to_unsigned_monotone w (fin false m e) (fin true n d) h =
     let level : m * up e * down d + n * up d * down e ≤ 0 = signed_of_finite false m e true n d h in
-    let none : m * up e / down e ≡ 0 = ap (λ (a : ℕ). a / down e) (factor_zero (m * up e) (down d) (down_pos d) (omega arith)) ∙ zero-div (down e) in
+    let none : m * up e / down e ≡ 0 = ap (λ (a : ℕ). a / down e) (eq_of_mul-eq-mul_right (down d) (down_pos d) (m * up e) 0 (omega arith)) ∙ zero-div (down e) in
     omega arith
 to_unsigned_monotone w (fin false m e) (fin false n d) h =
     let q : m * up e / down e ≤ n * up d / down d = div_mono (m * up e) (down e) (n * up d) (down d) (down_pos e) (down_pos d) (signed_of_finite false m e false n d h) in
@@ -58,4 +58,4 @@ to_unsigned_monotone w (fin false m e) (inf true) h = elim h [ ]
 -- its lower end: what is not below zero is above −1
 pub above_minus_one : (x : Float) → le (fin false 0 (pos 0)) x ≡ true → T (lt (fin true 1 (pos 0)) x)
 unfolding lt
-above_minus_one x h = subst T (sym (lt_le_transitive (fin true 1 (pos 0)) (fin false 0 (pos 0)) x refl h)) tt
+above_minus_one x h = lt_of_lt_of_le (fin true 1 (pos 0)) (fin false 0 (pos 0)) x tt (T_from_true _ h)

@@ -3,18 +3,20 @@ use Rattle.std.proofs.Common.{◌≡◌, ℕ, ◌*◌, Bool, true, false, T, eqb
 use mathlib.Core.Bool.{beq, or-true, false≢true}
 use lib.Ieee.{Float, nan, inf, fin, binary64, up, down, lt, le, eq, is_nan, fits}
 use lib.Ieee.Back.{whole_unique}
-use Rattle.booleans.proofs.Booleans.{and_split, signs_equal}
+use lib.Ieee.Bits.{is_true}
+use Rattle.std.specs.Cmp.{booleans_Decides}
+use Rattle.std.proofs.lemmas.Bool.{and_parts}
+use Rattle.std.proofs.lemmas.Float.{T_from_true, lt_of_lt_of_le, lt_of_le_of_lt}
 use Rattle.binary64.specs.Minimum.{is_zero, SameButZeroSign}
-use Rattle.binary64.proofs.LessThan.{le_lt_transitive, lt_le_transitive}
 
 -- The format has one zero of each sign.
 pub zero_is : (s : Bool) (x : Float) → T (fits binary64 x) → is_zero s x ≡ true → x ≡ fin s 0 (pos 0)
 zero_is s nan fx h = absurd (false≢true h)
 zero_is s (inf t) fx h = absurd (false≢true h)
 zero_is s (fin t m e) fx h =
-    let both = and_split (beq s t) (eqb m 0) h in
+    let both = and_parts (beq s t) (eqb m 0) h in
     let none : m ≡ 0 = eqb-true m 0 both.1 in
-    whole_unique binary64 (fin t m e) (fin s 0 (pos 0)) s 0 fx (unfold fits in tt) (sym (signs_equal s t both.0), ap (λ (k : ℕ). k * up e * 1) none ∙ ap (λ (k : ℕ). k * 1) (zero-mul (up e)) ∙ sym (zero-mul (down e))) (refl, refl)
+    whole_unique binary64 (fin t m e) (fin s 0 (pos 0)) s 0 fx (unfold fits in tt) (sym ((booleans_Decides s t).0 both.0), ap (λ (k : ℕ). k * up e * 1) none ∙ ap (λ (k : ℕ). k * 1) (zero-mul (up e)) ∙ sym (zero-mul (down e))) (refl, refl)
 
 pub zero_number : (s : Bool) (x : Float) → is_zero s x ≡ true → is_nan x ≡ false
 unfolding is_nan
@@ -30,8 +32,8 @@ zeros_equal s t (inf u) y h k = absurd (false≢true h)
 zeros_equal s t (fin u m e) nan h k = absurd (false≢true k)
 zeros_equal s t (fin u m e) (inf v) h k = absurd (false≢true k)
 zeros_equal s t (fin u m e) (fin v n d) h k =
-    let a : m ≡ 0 = eqb-true m 0 (and_split (beq s u) (eqb m 0) h).1 in
-    let b : n ≡ 0 = eqb-true n 0 (and_split (beq t v) (eqb n 0) k).1 in
+    let a : m ≡ 0 = eqb-true m 0 (and_parts (beq s u) (eqb m 0) h).1 in
+    let b : n ≡ 0 = eqb-true n 0 (and_parts (beq t v) (eqb n 0) k).1 in
     rw (a, b, zero-mul (up e), zero-mul (up d), zero-mul (down d), zero-mul (down e)) (or-true (beq u v))
 
 zeros_at_most : (s t : Bool) (x y : Float) → is_zero s x ≡ true → is_zero t y ≡ true → le x y ≡ true
@@ -46,10 +48,10 @@ both_ways false false there back = refl
 
 pub zeros_alike : (s t : Bool) (x y z : Float) → is_zero s x ≡ true → is_zero t y ≡ true → (lt z x ≡ lt z y) × (lt x z ≡ lt y z)
 zeros_alike s t x y z h k =
-    let there = zeros_at_most s t x y h k in
-    let back = zeros_at_most t s y x k h in (
-      both_ways (lt z x) (lt z y) (λ l. lt_le_transitive z x y l there) (λ l. lt_le_transitive z y x l back),
-      both_ways (lt x z) (lt y z) (λ l. le_lt_transitive y x z back l) (λ l. le_lt_transitive x y z there l),
+    let there = T_from_true _ (zeros_at_most s t x y h k) in
+    let back = T_from_true _ (zeros_at_most t s y x k h) in (
+      both_ways (lt z x) (lt z y) (λ l. is_true _ (lt_of_lt_of_le z x y (T_from_true _ l) there)) (λ l. is_true _ (lt_of_lt_of_le z y x (T_from_true _ l) back)),
+      both_ways (lt x z) (lt y z) (λ l. is_true _ (lt_of_le_of_lt y x z back (T_from_true _ l))) (λ l. is_true _ (lt_of_le_of_lt x y z there (T_from_true _ l))),
     )
 
 -- ---- data that differ in the sign of a zero at most

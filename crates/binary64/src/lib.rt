@@ -35,7 +35,8 @@ pub fn rank(x: f64) -> u64
     rank_of_bits(f64::to_bits(x))
 }
 
-// How the datum of the bit pattern x stands to that of y in the total order.
+// How the datum of the bit pattern x stands to that of y in the total order. On patterns and by rank: the library's `total_cmp` takes
+// floats that are no NaN.
 #[tactic(auto, using(crate::proofs::TotalOrder::total_ordering_by_rank))]
 pub fn total_cmp(x: u64, y: u64) -> Ordering
     ensures { result ≡ total_ordering x y }
@@ -61,45 +62,24 @@ pub fn minimum_number(x: f64, y: f64) -> f64
 }
 
 // The greatest whole number that is not above x. The sign of a zero stays, and so do an infinity and a NaN.
+#[tactic(auto, using(crate::proofs::Integral::floor_is_library))]
 pub fn floor(x: f64) -> f64
     ensures { result ≡ floor_of x }
 {
-    if x > 0.0 {
-        whole_part(x)
-    } else if x < 0.0 {
-        let magnitude = -x;
-        let whole = whole_part(magnitude);
-        if whole < magnitude {
-            -(whole + 1.0)
-        } else {
-            -whole
-        }
-    } else {
-        x
-    }
+    x.floor()
 }
 
 // The least whole number that is not below x. The sign of a zero stays, and so do an infinity and a NaN.
+#[tactic(auto, using(crate::proofs::Integral::ceil_is_library))]
 pub fn ceil(x: f64) -> f64
     ensures { result ≡ ceil_of x }
 {
-    -floor(-x)
-}
-
-// A positive x without its fraction. From 2^53 on there is none.
-fn whole_part(x: f64) -> f64
-    requires { T (lt positive_zero x) }
-    ensures { result ≡ floor_of x }
-{
-    if x < 9007199254740992.0 {
-        std::num::truncating_f64_to_u64(x) as f64
-    } else {
-        x
-    }
+    x.ceil()
 }
 
 // The whole part of a positive number below 2^53, by its digits with the leading one: the exponent says how many of them are a fraction's, and below 1 all are.
 // No branch tells the numbers below 1 from the others: a caller's may come in any order, and each wrong guess would cost more than the shift.
+// The library's `truncating_f64_to_u64` has that branch.
 pub fn whole_digits(x: f64) -> u64
     requires positive { lt positive_zero x ≡ true }
     requires with_fraction { lt x (fin false 1 (pos 53)) ≡ true }
@@ -133,7 +113,7 @@ pub struct Converted {
 }
 
 // From here on no double has a fraction: 2^53.
-const NO_FRACTION: i64 = 9007199254740992;
+pub const NO_FRACTION: i64 = 9007199254740992;
 
 // What became of a value of the range, by the whole number that is left of it. From 2^53 on there is no fraction to cut off.
 fn kept_or_cut(x: f64, whole: i64) -> Conversion
@@ -142,11 +122,7 @@ fn kept_or_cut(x: f64, whole: i64) -> Conversion
     requires its_whole { whole ≡ to_i64 x }
     ensures { result ≡ conversion_of x }
 {
-    if whole >= NO_FRACTION {
-        Conversion::Kept
-    } else if whole <= -9007199254740992 {
-        Conversion::Kept
-    } else if whole as f64 == x {
+    if whole >= NO_FRACTION || whole <= -NO_FRACTION || whole as f64 == x {
         Conversion::Kept
     } else {
         Conversion::Cut

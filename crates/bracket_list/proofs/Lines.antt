@@ -1,13 +1,11 @@
 -- Laws of the lines: each as its pieces, one behind another, and its length. Assumes nothing.
-use Prim.Native.Nat.{ℕ, suc, ◌+◌, ◌-◌, ◌≤◌, ◌<◌}
+use Prim.Native.Nat.{ℕ, suc, ◌+◌, ◌≤◌, ◌<◌}
 use native.Mathlib.Omega.{arith}
 use mathlib.Core.Path.{◌≡◌, refl, sym, ap, ◌∙◌}
 use mathlib.Core.List.{List, [], ◌∷◌, ◌++◌, append_assoc}
-use native.Mathlib.Numerals.{add-one}
-use lib.ListN.{length, take, drop, get_or, length-append}
-use Rattle.sequences.specs.Starts.{part, concatenate, CompressedRows}
-use Rattle.sequences.proofs.Starts.{concatenate_suc, length_concatenate, start_monotone, rows_within}
-use Rattle.sequences.proofs.Tabulate.{slice_as_take}
+use lib.ListN.{length, length-append}
+use Rattle.sequences.specs.Starts.{concatenate}
+use Rattle.sequences.proofs.Starts.{concatenate_suc, length_concatenate, start_monotone}
 use Rattle.bracket_list.specs.Text.{space, opening, closing, line_feed, spaced, decimal, bracketed, field, line}
 use Rattle.bracket_list.specs.LatticeList.{lattice_word, frequency_word, vertices_word, entries_word, head_line, vertex_line, vertex_lines, walk_line, listing}
 
@@ -102,19 +100,3 @@ module _ (f n e : ℕ) (lists : ℕ → List ℕ) (queue : List ℕ) where
 
   pub listing_size : length (listing f n e lists queue) ≡ length (head_line f n e) + length (vertex_lines n lists) + length (walk_line queue)
   listing_size = ap length (sym listing_pieces) ∙ simp length-append (omega arith)
-
--- the list of a vertex, as it is cut from the entries
-pub record RowAt (n : ℕ) (starts entries : List ℕ) (v : ℕ) : Type 0 where
-  pub size : length starts ≡ n + 1
-  pub ascend : get_or starts v 0 ≤ get_or starts (v + 1) 0
-  pub within : get_or starts (v + 1) 0 ≤ length entries
-  pub handed : take (get_or starts (v + 1) 0 - get_or starts v 0) (drop (get_or starts v 0) entries) ≡ part starts entries v
-
-pub row_at : {n : ℕ} {starts entries : List ℕ} → CompressedRows n starts entries → (v : ℕ) → v < n → RowAt n starts entries v
-unfolding part
-row_at {n} {starts} {entries} rows v lt = record {
-  size = rw add-one rows.size;
-  ascend = rw add-one (rows.ascend v lt);
-  within = rw add-one (rows_within n starts entries rows (suc v) lt);
-  handed = rw add-one (sym (slice_as_take (get_or starts v 0) (get_or starts (suc v) 0) entries));
-}

@@ -9,8 +9,9 @@ use Rattle.sequences.specs.Starts.{part, CompressedRows}
 use Rattle.sequences.proofs.Starts.{part_length}
 use Rattle.sequences.proofs.Tabulate.{take_overwrite}
 use Rattle.std.specs.Prelude.{Ok}
-use Rattle.mesh.specs.Mesh.{Mesh, count, neighbours}
+use Rattle.mesh.specs.Mesh.{Mesh, count, neighbours, HasList}
 use Rattle.mesh.specs.Rows.{adjacency_rows}
+use Rattle.mesh.proofs.Neighbours.{has_list}
 use Rattle.mesh.proofs.Facts.{adjacency_facts}
 use Rattle.walk.specs.declared.Reach.{Reach}
 use Rattle.walk.specs.Walk.{breadth_first}
@@ -27,7 +28,7 @@ use Rattle.bracket_list.specs.LatticeList.{head_line, vertex_lines, walk_line, l
 use Rattle.bracket_list.specs.Output.{LatticeRows}
 use Rattle.bracket_list.proofs.Numerals.{length_decimal}
 use Rattle.bracket_list.proofs.Spaces.{length_spaced}
-use Rattle.bracket_list.proofs.Lines.{RowAt, row_at, vertex_size, walk_size, head_size, vertices_none, vertices_suc, listing_pieces, listing_size}
+use Rattle.bracket_list.proofs.Lines.{vertex_size, walk_size, head_size, vertices_none, vertices_suc, listing_pieces, listing_size}
 
 -- ---- how long a listing is, with ten digits for each number
 
@@ -129,10 +130,14 @@ module _ {n : ℕ} {starts entries : List ℕ} (lent : LatticeRows n starts entr
   compressed : CompressedRows (length starts - 1) starts entries
   compressed = rw count_is (rw (lent.starts_are, lent.entries_are) (adjacency_facts mesh listed.passed).rows)
 
-  -- the row of a vertex lies in the slices, and is the vertex's neighbour list
-  pub row_of : (v : ℕ) → v < count mesh → RowAt (length starts - 1) starts entries v × (part starts entries v ≡ neighbours mesh v)
+  -- the row of a vertex lies in the slices
+  pub row_of : (v : ℕ) → v < count mesh → HasList starts entries v
+  row_of v lt = has_list compressed v (omega (arith, count_is))
+
+  -- and is the vertex's neighbour list
+  pub row_is : (v : ℕ) → part starts entries v ≡ neighbours mesh v
   unfolding neighbours
-  row_of v lt = (row_at compressed v (omega (arith, count_is)), rw (lent.starts_are, lent.entries_are))
+  row_is v = rw (lent.starts_are, lent.entries_are)
 
   pub lattice_walkable : {order queue : List ℕ} → length order ≡ count mesh → 162 ≤ length queue → Walkable starts entries order queue
   lattice_walkable size room = rw (lent.starts_are, lent.entries_are) (mesh_walkable mesh listed.passed size (omega (arith, few)))

@@ -1,31 +1,25 @@
--- Laws of decimal numbers: one digit, and the last digit behind the others. Assumes nothing.
-use Prim.Native.Nat.{ℕ, zero, suc, ◌+◌, ◌/◌, ◌%◌, ◌^◌, ◌≤◌, ◌<◌}
-use native.Mathlib.Omega.{arith}
-use mathlib.Core.Path.{◌≡◌, refl, ap}
-use mathlib.Core.Bool.{Bool, true, false}
-use mathlib.Core.List.{List, [], ◌∷◌, ◌++◌}
-use lib.Dec.{ltb}
-use lib.ListN.{length, length-append}
-use borrow.Author.Tests.{lt-ltb, le-ltb}
+-- Laws of decimal numbers: they are what the library writes, and their length. Assumes nothing.
+use Rattle.std.proofs.Common.{◌≡◌, ℕ, zero, suc, ◌/◌, ◌^◌, ◌<◌, ◌≤◌, Bool, true, false, List, [], ◌∷◌, map, ltb, length, length-append, get_or, refl, sym, ap, arith, lt-ltb, le-ltb}
+use Rattle.std.specs.Fmt as library
+use Rattle.std.proofs.lemmas.Fmt.{AppendsLastDigit, decimal_from_appends, length-decimal-le}
 use Rattle.bracket_list.specs.Text.{digits_within, decimal}
 
--- a number of at most k + 1 digits needs no further place
-digits_enough : (k n : ℕ) → n < 10 ^ suc k → digits_within (suc k) (ltb n 10) n ≡ digits_within (suc (suc k)) (ltb n 10) n
+digits_append : AppendsLastDigit (λ most n. digits_within most (ltb n 10) n)
 unfolding digits_within
-digits_enough zero n lt = rw (lt-ltb n 10 lt) refl
-digits_enough (suc k) n lt = go (ltb n 10) (digits_enough k (n / 10) (omega arith))
-  where
-    go : (small : Bool) → digits_within (suc k) (ltb (n / 10) 10) (n / 10) ≡ digits_within (suc (suc k)) (ltb (n / 10) 10) (n / 10) → digits_within (suc (suc k)) small n ≡ digits_within (suc (suc (suc k))) small n
-    go true e = refl
-    go false e = ap (λ (l : List ℕ). l ++ ((48 + n % 10) ∷ [])) e
+digits_append = record { one = λ most n small. rw (lt-ltb n 10 small) refl; more = λ most n le. rw (le-ltb n 10 le) refl }
 
-pub decimal_digit : (n : ℕ) → n < 10 → decimal n ≡ (48 + n % 10) ∷ []
-unfolding decimal digits_within
-decimal_digit n lt = let same : n ≡ n % 10 = omega arith in rw (lt-ltb n 10 lt) (ap (λ (digit : ℕ). (48 + digit) ∷ []) same)
+-- what the library writes
+pub decimal_is : (n : ℕ) → n < 2 ^ 32 → library.decimal n ≡ decimal n
+unfolding decimal
+decimal_is n lt =
+    sym (decimal_from_appends (λ most n. digits_within most (ltb n 10) n) digits_append 10 n (omega arith) (length-decimal-le 10 n (omega arith) (omega arith) (omega arith)))
 
-pub decimal_more : (n : ℕ) → 10 ≤ n → n < 2 ^ 32 → decimal n ≡ decimal (n / 10) ++ ((48 + n % 10) ∷ [])
-unfolding decimal digits_within
-decimal_more n le lt = rw (le-ltb n 10 le) (ap (λ (l : List ℕ). l ++ ((48 + n % 10) ∷ [])) (digits_enough 8 (n / 10) (omega arith)))
+pub decimal_length : (n : ℕ) → n < 2 ^ 32 → length (library.decimal n) ≡ length (decimal n)
+decimal_length n lt = ap length (decimal_is n lt)
+
+pub decimals_are : (ns : List ℕ) → ((i : ℕ) → get_or ns i 0 < 2 ^ 32) → map library.decimal ns ≡ map decimal ns
+decimals_are [] few = refl
+decimals_are (n ∷ ns) few = rw (decimal_is n (few 0), decimals_are ns (λ i. few (suc i))) refl
 
 length_digits : (most : ℕ) (small : Bool) (n : ℕ) → length (digits_within most small n) ≤ most
 unfolding digits_within

@@ -1,74 +1,63 @@
 -- Laws of numbers with one space between them, where a list is written number by number. Assumes nothing.
-use Rattle.std.proofs.Common.{◌≡◌, ℕ, zero, suc, ◌+◌, ◌-◌, ◌*◌, ◌<◌, ◌≤◌, List, [], ◌∷◌, ◌++◌, map, length, take, drop, get_or, refl, sym, ap, ◌∙◌, append_assoc, append-nil, length-append, add-one, arith}
+use Rattle.std.proofs.Common.{◌≡◌, ℕ, zero, suc, ◌+◌, ◌-◌, ◌*◌, ◌^◌, ◌<◌, ◌≤◌, List, [], ◌∷◌, ◌++◌, map, length, take, drop, get_or, refl, sym, ap, ◌∙◌, append_assoc, length-append, add-one, arith}
+use Rattle.std.specs.List.{join_with_byte}
+use Rattle.std.specs.Fmt as library
 use Rattle.std.proofs.Math.Seq.{take_all}
-use Rattle.std.proofs.lemmas.List.{get_or-map, length-map, map-id}
-use native.Mathlib.Nat.{not-suc-le-zero, le_of_suc-le-suc}
-use Rattle.bracket_list.specs.Text.{space, decimal, spaced, spaced_rest}
-use Rattle.bracket_list.proofs.Numerals.{length_decimal}
+use Rattle.std.proofs.lemmas.List.{get_or-map, length-map}
+use Rattle.bracket_list.specs.Text.{space, spaced}
+use Rattle.bracket_list.proofs.Numerals.{decimals_are, length_decimal}
 
-rest_suc : (l : List ℕ) (i : ℕ) → i < length l → spaced_rest (take (suc i) l) ≡ spaced_rest (take i l) ++ (space ∷ decimal (get_or l i 0))
-unfolding spaced_rest
-rest_suc [] i lt = absurd (not-suc-le-zero lt)
-rest_suc (x ∷ xs) zero lt = ap (λ (t : List ℕ). space ∷ t) (append-nil (decimal x))
-rest_suc (x ∷ xs) (suc i) lt =
-    ap (λ (t : List ℕ). space ∷ (decimal x ++ t)) (rest_suc xs i (le_of_suc-le-suc lt))
-    ∙ ap (λ (t : List ℕ). space ∷ t) (sym (append_assoc (decimal x) (spaced_rest (take i xs)) (space ∷ decimal (get_or xs i 0))))
-
-rest_front : (k : ℕ) (l : List ℕ) → length (spaced_rest (take k l)) ≤ length (spaced_rest l)
-unfolding spaced_rest
-rest_front zero l = omega arith
-rest_front (suc k) [] = omega arith
-rest_front (suc k) (x ∷ xs) = let r = rest_front k xs in simp length-append (omega arith)
+join_suc : (l : List (List ℕ)) (i : ℕ) → suc i < length l → join_with_byte space (take (suc (suc i)) l) ≡ join_with_byte space (take (suc i) l) ++ (space ∷ get_or l (suc i) [])
+join_suc [] i lt = absurd (omega arith)
+join_suc (x ∷ []) i lt = absurd (omega arith)
+join_suc (x ∷ y ∷ ys) zero lt = refl
+join_suc (x ∷ y ∷ ys) (suc i) lt =
+    ap (λ (t : List ℕ). x ++ (space ∷ t)) (join_suc (y ∷ ys) i (omega arith)) ∙ sym (append_assoc x (space ∷ join_with_byte space (take (suc i) (y ∷ ys))) (space ∷ get_or (y ∷ ys) (suc i) []))
 
 -- a front is no longer than the whole
-pub spaced_front : (k : ℕ) (l : List ℕ) → length (spaced (take k l)) ≤ length (spaced l)
-unfolding spaced
-spaced_front zero l = omega arith
-spaced_front (suc k) [] = omega arith
-spaced_front (suc k) (x ∷ xs) = let r = rest_front k xs in simp length-append (omega arith)
-
-length_rest : (l : List ℕ) → length (spaced_rest l) ≤ 11 * length l
-unfolding spaced_rest
-length_rest [] = omega arith
-length_rest (x ∷ xs) = let r = length_rest xs in let d = length_decimal x in simp length-append (omega arith)
+pub join_front : (k : ℕ) (l : List (List ℕ)) → length (join_with_byte space (take k l)) ≤ length (join_with_byte space l)
+join_front zero l = omega arith
+join_front (suc k) [] = omega arith
+join_front (suc zero) (x ∷ []) = omega arith
+join_front (suc (suc k)) (x ∷ []) = omega arith
+join_front (suc zero) (x ∷ y ∷ ys) = simp length-append (omega arith)
+join_front (suc (suc k)) (x ∷ y ∷ ys) = let r = join_front (suc k) (y ∷ ys) in simp length-append (omega arith)
 
 -- ten digits and a space for each
 pub length_spaced : (l : List ℕ) → length (spaced l) ≤ 11 * length l
 unfolding spaced
 length_spaced [] = omega arith
-length_spaced (x ∷ xs) = let r = length_rest xs in let d = length_decimal x in simp length-append (omega arith)
+length_spaced (x ∷ []) = let d = length_decimal x in omega arith
+length_spaced (x ∷ y ∷ ys) = let r = length_spaced (y ∷ ys) in let d = length_decimal x in simp length-append (omega arith)
 
-pub spaced_none : {A : Type 0} (number : A → ℕ) (xs : List A) → length xs < 1 → [] ≡ spaced (map number xs)
+-- what the library writes of numbers
+pub spaced_is : (ns : List ℕ) → ((i : ℕ) → get_or ns i 0 < 2 ^ 32) → join_with_byte space (map library.decimal ns) ≡ spaced ns
 unfolding spaced
-spaced_none number [] lt = refl
-spaced_none number (x ∷ xs) lt = absurd (omega arith)
+spaced_is ns few = ap (join_with_byte space) (decimals_are ns few)
 
--- numbers that stand for themselves
-pub spaced_same : (xs : List ℕ) → spaced (map (λ n. n) xs) ≡ spaced xs
-spaced_same xs = ap spaced (map-id xs)
+module _ {A : Type 0} (text : A → List ℕ) where
+  pub join_none : (xs : List A) → length xs < 1 → [] ≡ join_with_byte space (map text xs)
+  join_none [] lt = refl
+  join_none (x ∷ xs) lt = absurd (omega arith)
 
-module _ {A : Type 0} (number : A → ℕ) where
-  -- the first number alone
-  pub spaced_first : (xs : List A) (x : A) (n : ℕ) → 1 ≤ length xs → x ≡ get_or xs 0 x → n ≡ number x → decimal n ≡ spaced (take 1 (map number xs))
-  unfolding spaced spaced_rest
-  spaced_first [] x n le e is = absurd (omega arith)
-  spaced_first (y ∷ ys) x n le e is = rw (is, e) (sym (append-nil (decimal (number y))))
+  -- the first text alone
+  pub join_first : (xs : List A) (x : A) → 1 ≤ length xs → x ≡ get_or xs 0 x → text x ≡ join_with_byte space (take 1 (map text xs))
+  join_first [] x le e = absurd (omega arith)
+  join_first (y ∷ ys) x le e = ap text e
 
-  -- one number more, x of those behind the first
-  pub spaced_more : (xs : List A) (i : ℕ) (x : A) (n : ℕ) → i < length (take (length xs - 1) (drop 1 xs)) → x ≡ get_or (take (length xs - 1) (drop 1 xs)) i x → n ≡ number x
-      → spaced (take (i + 1) (map number xs)) ++ (space ∷ decimal n) ≡ spaced (take (i + 1 + 1) (map number xs))
-  unfolding spaced
-  spaced_more [] i x n lt e is = absurd (omega arith)
-  spaced_more (y ∷ ys) i x n lt e is =
+  -- one text more, that of x of those behind the first
+  pub join_more : (xs : List A) (i : ℕ) (x : A) → i < length (take (length xs - 1) (drop 1 xs)) → x ≡ get_or (take (length xs - 1) (drop 1 xs)) i x
+      → join_with_byte space (take (i + 1) (map text xs)) ++ (space ∷ text x) ≡ join_with_byte space (take (i + 1 + 1) (map text xs))
+  join_more [] i x lt e = absurd (omega arith)
+  join_more (y ∷ ys) i x lt e =
       let all : take (length (y ∷ ys) - 1) ys ≡ ys = take_all (length (y ∷ ys) - 1) ys (omega arith) in
       let within : i < length ys = rw all at lt in
-      let item : n ≡ get_or (map number ys) i 0 = is ∙ ap number (rw all at e) ∙ sym (get_or-map number ys i x 0 within) in
-      rw (add-one (i + 1), add-one i, item)
-      (append_assoc (decimal (number y)) (spaced_rest (take i (map number ys))) _ ∙ ap (λ (t : List ℕ). decimal (number y) ++ t) (sym (rest_suc (map number ys) i (rw (length-map (ys) (number)) within))))
+      let item : text x ≡ get_or (map text ys) i [] = ap text (rw all at e) ∙ sym (get_or-map text ys i x [] within) in
+      rw (add-one (i + 1), add-one i, item) (sym (join_suc (map text (y ∷ ys)) i (omega (arith, length-map ys text))))
 
   -- all of them
-  pub spaced_all : (xs : List A) (i : ℕ) → length (take (length xs - 1) (drop 1 xs)) ≤ i → spaced (take (i + 1) (map number xs)) ≡ spaced (map number xs)
-  spaced_all [] i le = ap spaced (take_all (i + 1) [] (omega arith))
-  spaced_all (y ∷ ys) i le =
+  pub join_all : (xs : List A) (i : ℕ) → length (take (length xs - 1) (drop 1 xs)) ≤ i → join_with_byte space (take (i + 1) (map text xs)) ≡ join_with_byte space (map text xs)
+  join_all [] i le = ap (join_with_byte space) (take_all (i + 1) [] (omega arith))
+  join_all (y ∷ ys) i le =
       let all : take (length (y ∷ ys) - 1) ys ≡ ys = take_all (length (y ∷ ys) - 1) ys (omega arith) in
-      ap spaced (take_all (i + 1) (map number (y ∷ ys)) (omega (arith, ap length all, length-map ys number)))
+      ap (join_with_byte space) (take_all (i + 1) (map text (y ∷ ys)) (omega (arith, ap length all, length-map ys text)))

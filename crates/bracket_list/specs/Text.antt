@@ -1,5 +1,6 @@
 -- Numbers and bracket lists as bytes (ASCII). Definitions only.
-use Rattle.std.specs.Prelude.{ℕ, zero, suc, ◌+◌, ◌/◌, ◌%◌, Bool, true, false, List, [], ◌∷◌, ◌++◌, ltb}
+use Rattle.std.specs.Prelude.{ℕ, zero, suc, ◌+◌, ◌/◌, ◌%◌, Bool, true, false, List, [], ◌∷◌, ◌++◌, map, ltb}
+use Rattle.std.specs.List.{join_with_byte}
 
 abbrev pub space : ℕ
 space = 32
@@ -23,15 +24,9 @@ digits_within (suc most) false n = digits_within most (ltb (n / 10) 10) (n / 10)
 unfoldable pub decimal : ℕ → List ℕ
 decimal n = digits_within 10 (ltb n 10) n
 
--- Numbers behind the first, each behind one space.
-unfoldable pub spaced_rest : List ℕ → List ℕ
-spaced_rest [] = []
-spaced_rest (n ∷ ns) = space ∷ (decimal n ++ spaced_rest ns)
-
 -- Numbers with one space between them.
 unfoldable pub spaced : List ℕ → List ℕ
-spaced [] = []
-spaced (n ∷ ns) = decimal n ++ spaced_rest ns
+spaced ns = join_with_byte space (map decimal ns)
 
 -- A text in brackets.
 abbrev pub bracketed : List ℕ → List ℕ

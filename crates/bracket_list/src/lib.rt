@@ -1,44 +1,22 @@
-// Lattices as bracket lists, in bytes. Each function appends to the lines.
+// Lattices as bracket lists, in bytes. Each function whose name begins with `put_` appends to the lines.
 #![tactic(auto)]
 
-ghost use Rattle.std.specs.Prelude.{◌≡◌, ℕ, ◌≤◌, map};
+ghost use Rattle.std.specs.Prelude.{◌≡◌, ◌≤◌, map};
+ghost use Rattle.std.specs.List.{join_with_byte};
 ghost use Rattle.mesh.specs.Mesh.{count, neighbours};
 ghost use Rattle.lattice.specs.Lattice.{lattice_mesh};
-ghost use Rattle.bracket_list.specs.Text.{decimal, spaced};
+ghost use Rattle.bracket_list.specs.Text.{space};
 ghost use Rattle.bracket_list.specs.LatticeList.{head_line, vertex_line, vertex_lines, walk_line, mesh_listing, requested_frequency, lattice_listing};
 ghost use Rattle.bracket_list.specs.Output.{HasRoom, Written};
 
-mod rows;
+mod lattice_lists;
 
 use arrayvec::ArrayVec;
-use rows::Rows;
+use itoa::{Buffer, Integer};
+use lattice_lists::LatticeLists;
 
 // What the program prints: lines in a fixed room, where every listing fits.
 pub type Lines = ArrayVec<u8, 16384>;
-
-// A number of a list.
-trait Number: Copy {
-    ghost number: { Self → ℕ };
-
-    fn number(self) -> u32
-        ensures { result ≡ Self.number self };
-}
-
-impl Number for u16 {
-    ghost number = { λ n. n };
-
-    fn number(self) -> u32 {
-        u32::from(self)
-    }
-}
-
-impl Number for u32 {
-    ghost number = { λ n. n };
-
-    fn number(self) -> u32 {
-        self
-    }
-}
 
 fn put_text(lines: &mut Lines, text: &[u8])
     requires room { HasRoom lines.old text.now }
@@ -48,32 +26,30 @@ fn put_text(lines: &mut Lines, text: &[u8])
 }
 
 // A number in decimal digits, no leading zero.
-fn put_decimal(lines: &mut Lines, n: u32)
-    requires room { HasRoom lines.old (decimal n) }
-    ensures { Written lines.old (decimal n) lines.new }
+// No `write!`: it may fail, and does not promise that it does not where there is room.
+fn put_decimal<N: Integer>(lines: &mut Lines, n: N)
+    requires room { HasRoom lines.old (N.text n) }
+    ensures { Written lines.old (N.text n) lines.new }
 {
-    if n >= 10 {
-        put_decimal(lines, n / 10);
-    }
-    lines.push(b'0' + (n % 10) as u8);
+    put_text(lines, Buffer::new().format(n).as_bytes());
 }
 
 // Numbers with one space between them.
-fn put_spaced<N: Number>(lines: &mut Lines, numbers: &[N])
-    requires room { HasRoom lines.old (spaced (map N.number numbers.now)) }
-    ensures { Written lines.old (spaced (map N.number numbers.now)) lines.new }
+fn put_spaced<N: Integer>(lines: &mut Lines, numbers: &[N])
+    requires room { HasRoom lines.old (join_with_byte space (map N.text numbers.now)) }
+    ensures { Written lines.old (join_with_byte space (map N.text numbers.now)) lines.new }
 {
     if let [first, rest @ ..] = numbers {
-        put_decimal(lines, first.number());
+        put_decimal(lines, *first);
         for n in rest {
             lines.push(b' ');
-            put_decimal(lines, n.number());
+            put_decimal(lines, *n);
         }
     }
 }
 
 // The line of a vertex: its id and its neighbours.
-#[tactic(auto, using(crate::proofs::Lines::vertex_size))]
+#[tactic(auto, using(crate::proofs::Lines::vertex_size, crate::proofs::Numerals::decimal_length))]
 fn put_vertex(lines: &mut Lines, vertex: u32, list: &[u16])
     requires room { HasRoom lines.old (vertex_line vertex list.now) }
     ensures { Written lines.old (vertex_line vertex list.now) lines.new }
@@ -86,7 +62,7 @@ fn put_vertex(lines: &mut Lines, vertex: u32, list: &[u16])
 }
 
 // The lines of all vertices.
-fn put_vertices(lines: &mut Lines, rows: &Rows)
+fn put_vertices(lines: &mut Lines, rows: &LatticeLists)
     requires room { HasRoom lines.old (let m = lattice_mesh rows.now.frequency in vertex_lines (count m) (neighbours m)) }
     ensures { Written lines.old (let m = lattice_mesh rows.now.frequency in vertex_lines (count m) (neighbours m)) lines.new }
 {
@@ -96,7 +72,7 @@ fn put_vertices(lines: &mut Lines, rows: &Rows)
 }
 
 // The line of the frequency and the counts.
-#[tactic(auto, using(crate::proofs::Lines::head_size))]
+#[tactic(auto, using(crate::proofs::Lines::head_size, crate::proofs::Numerals::decimal_length))]
 fn put_head(lines: &mut Lines, frequency: u32, vertices: u32, entries: u32)
     requires room { HasRoom lines.old (head_line frequency vertices entries) }
     ensures { Written lines.old (head_line frequency vertices entries) lines.new }
@@ -122,7 +98,7 @@ fn put_walk(lines: &mut Lines, queue: &[u32])
 }
 
 // Walks a lattice, by its neighbour lists, and lists it.
-fn put_mesh(lines: &mut Lines, rows: &Rows)
+fn put_mesh(lines: &mut Lines, rows: &LatticeLists)
     requires room { HasRoom lines.old (mesh_listing rows.now.frequency (lattice_mesh rows.now.frequency)) }
     ensures { Written lines.old (mesh_listing rows.now.frequency (lattice_mesh rows.now.frequency)) lines.new }
 {
@@ -181,7 +157,7 @@ fn put_lattice(lines: &mut Lines, frequency: u32)
     )
     .unwrap();
     let n = frequency as usize;
-    let rows = Rows {
+    let rows = LatticeLists {
         frequency,
         starts: &starts[..10 * (n * n) + 3],
         entries: &entries[..60 * (n * n)],

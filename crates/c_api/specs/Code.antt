@@ -13,7 +13,7 @@ use Rattle.analytic.specs.declared.Signs.{Signs}
 use Rattle.analytic.specs.declared.Located as analytic
 use Rattle.grid.specs.declared.Built.{Built}
 use Rattle.grid_query.specs.declared.Nearest.{Nearest}
-use Rattle.grid_query.specs.declared.Located.{Located}
+use Rattle.grid_query.specs.declared.LocatedTriangle.{LocatedTriangle}
 use Rattle.c_api.specs.declared.VerdictAnswer.{VerdictAnswer}
 use Rattle.c_api.specs.declared.BuildAnswer.{BuildAnswer}
 use Rattle.c_api.specs.declared.ConversionAnswer.{ConversionAnswer}
@@ -91,7 +91,7 @@ nearest_answer (Err reason) = record { refusal = number_of reason; id = 0; candi
 nearest_answer (Ok nearest) =
     record { refusal = 0; id = nearest.id; candidates = nearest.candidates; distance = nearest.distance; index = 0 }
 
-abbrev pub located_answer : Result Located Refusal → LocatedAnswer
+abbrev pub located_answer : Result LocatedTriangle Refusal → LocatedAnswer
 located_answer (Err reason) =
     record { refusal = number_of reason; first = 0; second = 0; third = 0; u = positive_zero; v = positive_zero; w = positive_zero; least = positive_zero; index = index_of reason }
 located_answer (Ok located) = record {

@@ -14,7 +14,7 @@ use crate::{BuildAnswer, LocatedAnswer, NearestAnswer};
 use grid::settings::Settings;
 use vector::Vector3;
 
-// The side of the grid that was written with this factor and margin. After a refusal all slices are as they were.
+// The grid is written with this factor and margin; the answer has its side. After a refusal all slices are as they were.
 pub fn koshirga_build_grid(
     positions: &[f64],
     starts: &[u32],
@@ -28,7 +28,7 @@ pub fn koshirga_build_grid(
 ) -> BuildAnswer
     ensures { build_left result (grid_slices cell_starts.new cell_ids.new triangle_starts.new triples.new) ≡ build_left_of (build_grid (mesh_of positions.now starts.now entries.now) (settings_with factor margin) (grid_slices cell_starts.old cell_ids.old triangle_starts.old triples.old)) }
 {
-    let outcome = grid::build_grid(
+    grid::build_grid(
         positions,
         starts,
         entries,
@@ -37,8 +37,8 @@ pub fn koshirga_build_grid(
         triangle_starts,
         triples,
         Settings { factor, margin },
-    );
-    outcome.into()
+    )
+    .into()
 }
 
 pub fn koshirga_grid_nearest(
@@ -53,7 +53,7 @@ pub fn koshirga_grid_nearest(
 ) -> NearestAnswer
     ensures { (triples : List ℕ) → result ≡ nearest_answer (grid_nearest (lent_grid (settings_with factor margin) side cell_starts.now cell_ids.now triangle_starts.now triples) positions.now direction) }
 {
-    let outcome = grid_query::find_nearest_vertex(
+    grid_query::find_nearest_vertex(
         positions,
         Settings { factor, margin },
         side,
@@ -61,8 +61,8 @@ pub fn koshirga_grid_nearest(
         cell_ids,
         triangle_starts,
         direction,
-    );
-    outcome.into()
+    )
+    .into()
 }
 
 pub fn koshirga_grid_locate(
@@ -78,7 +78,7 @@ pub fn koshirga_grid_locate(
 ) -> LocatedAnswer
     ensures { result ≡ located_answer (grid_locate (lent_grid (settings_with factor margin) side cell_starts.now cell_ids.now triangle_starts.now triples.now) positions.now direction) }
 {
-    let outcome = grid_query::locate(
+    grid_query::locate(
         positions,
         Settings { factor, margin },
         side,
@@ -87,6 +87,6 @@ pub fn koshirga_grid_locate(
         triangle_starts,
         triples,
         direction,
-    );
-    outcome.into()
+    )
+    .into()
 }

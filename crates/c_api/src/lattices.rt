@@ -9,7 +9,6 @@ ghost use Rattle.c_api.specs.Lent.{lattice_left, lattice_left_of};
 use crate::{AnalyticAnswer, FaceAnswer, VertexAnswer, refusal_code};
 use analytic::Signs;
 use master_face::Three;
-use refusal::Refusal;
 use vector::Vector3;
 
 pub fn koshirga_choose_face(
@@ -28,15 +27,7 @@ pub fn koshirga_choose_face(
         second,
         third,
     };
-    chosen_face(signs, outside).into()
-}
-
-// The face's number as C receives it: there are twenty.
-fn chosen_face(signs: Signs, outside: Three<bool>) -> Result<u32, Refusal>
-    ensures { result ≡ choose_face signs outside }
-{
-    let face = analytic::choose_face(signs, outside)?;
-    Ok(face as u32)
+    analytic::choose_face(signs, outside).into()
 }
 
 pub fn koshirga_analytic_locate(frequency: u32, ids: &[u16], direction: Vector3) -> AnalyticAnswer

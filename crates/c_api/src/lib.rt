@@ -1,7 +1,8 @@
-// The engine for C and Rust: include/koshirga.h declares these functions.
+// The engine for C and Rust: include/koshirga.h declares these functions. Slices and numbers stand apart, as C lends them.
 #![tactic(auto)]
 
 ghost use Rattle.std.specs.Prelude.{◌≡◌};
+ghost use Rattle.analytic.specs.FaceChoice.{face_index};
 ghost use Rattle.c_api.specs.Code.{verdict_answer, face_answer, analytic_answer, vertex_answer, walk_answer, build_answer, conversion_answer, nearest_answer, located_answer, refusal_code};
 
 pub mod arithmetic;
@@ -12,11 +13,13 @@ pub mod vectors;
 
 use binary64::Converted;
 use grid::Built;
-use grid_query::{Located, Nearest};
+use grid_query::{LocatedTriangle, Nearest};
+use icosahedron::Face;
 use refusal::Refusal;
 
 // What C receives: a Result as one struct, which C has no other form for. Every answer has the refusal's number first, 0 where the call
 // was accepted. The other fields of a refused answer are 0, but for the index that row 18 carries, in the answers of the calls that have that row.
+// A block for each, as the fields differ.
 #[repr(C)]
 #[derive(Clone, Copy, Debug, Default)]
 pub struct VerdictAnswer {
@@ -45,13 +48,13 @@ pub struct FaceAnswer {
     pub face: u32,
 }
 
-impl From<Result<u32, Refusal>> for FaceAnswer {
-    ghost from_gives = { λ outcome answer. answer ≡ face_answer outcome };
+impl From<Result<Face, Refusal>> for FaceAnswer {
+    ghost from_gives = { λ outcome answer. answer ≡ face_answer (face_index outcome) };
 
-    fn from(outcome: Result<u32, Refusal>) -> FaceAnswer {
+    fn from(outcome: Result<Face, Refusal>) -> FaceAnswer {
         match outcome {
             Ok(face) => FaceAnswer {
-                face,
+                face: face.index as u32,
                 ..FaceAnswer::default()
             },
             Err(reason) => FaceAnswer {
@@ -237,10 +240,10 @@ pub struct LocatedAnswer {
     pub index: usize,
 }
 
-impl From<Result<Located, Refusal>> for LocatedAnswer {
+impl From<Result<LocatedTriangle, Refusal>> for LocatedAnswer {
     ghost from_gives = { λ outcome answer. answer ≡ located_answer outcome };
 
-    fn from(outcome: Result<Located, Refusal>) -> LocatedAnswer {
+    fn from(outcome: Result<LocatedTriangle, Refusal>) -> LocatedAnswer {
         match outcome {
             Ok(located) => LocatedAnswer {
                 first: u32::from(located.triple.first),

@@ -50,7 +50,7 @@ pub fn koshirga_renumber(
     ensures values_after { renumber_left result (mesh_of positions.new starts.new entries.new) lists_ascend.new values.new ≡ renumber_left_of (apply_vertex_permutation (mesh_of positions.old starts.old entries.old) lists_ascend.old values.old (call_of permutation.now entries_per_vertex (length sources.old ∷ length old_starts.old ∷ length old_entries.old ∷ length done.old ∷ length held.old ∷ []))) }
     ensures held_unchanged { 0 < result.refusal → scratch_of sources.new old_starts.new old_entries.new done.new held.new ≡ scratch_of sources.old old_starts.old old_entries.old done.old held.old }
 {
-    let outcome = renumber::apply_vertex_permutation(
+    renumber::apply_vertex_permutation(
         positions,
         starts,
         entries,
@@ -63,6 +63,6 @@ pub fn koshirga_renumber(
         old_entries,
         done,
         held,
-    );
-    outcome.into()
+    )
+    .into()
 }

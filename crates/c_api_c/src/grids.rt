@@ -13,7 +13,7 @@ ghost use Rattle.c_api.specs.Lent.{build_left, build_left_of};
 use c_api::{BuildAnswer, LocatedAnswer, NearestAnswer};
 use vector::Vector3;
 
-// The side of the grid that was written with this factor and margin. After a refusal all slices are as they were.
+// The grid is written with this factor and margin; the answer has its side. After a refusal all slices are as they were.
 #[unsafe(no_mangle)]
 pub extern "C" fn koshirga_build_grid(
     positions: &[f64],

@@ -10,7 +10,7 @@ use lib.Pow.{pow-add, pow_pos, pow_mono}
 use lib.Ieee.{Format, prec, low, round, sum}
 use Rattle.words.specs.Value.{value}
 use Rattle.words.specs.Sticky.{StickyEquivalent}
-use Rattle.words.proofs.Order.{lt_or_le, flag_lt, flag_le}
+use Rattle.std.proofs.lemmas.Bool.{cases_lt, ltb-true, ltb-false}
 use Rattle.words.proofs.StickyShift.{multiple_split}
 use Rattle.rounding.proofs.RoundSticky.{round_shifted}
 use Rattle.rounding.proofs.RoundWord.{prec_short}
@@ -98,7 +98,7 @@ module _ (f : Format) (s t : Bool) (X Y v j e b : ℕ) (ax : Alignable X) (ay : 
 
   pub sum_aligned : sum f s (X * 2 ^ (e + j)) t (Y * 2 ^ e) (2 ^ (low f + b)) ≡ sum f s (X * 2 ^ (e + j)) t (v * 2 ^ (e + j)) (2 ^ (low f + b))
   unfolding c
-  sum_aligned = elim (lt_or_le 4 j) [ inl l ↦ far l | inr g ↦ near g ]
+  sum_aligned = elim (cases_lt 4 j) [ inl l ↦ far l | inr g ↦ near g ]
 
 -- ---- any two exponents
 pub align_second : (f : Format) (s t : Bool) (X Y v d e b : ℕ) → Alignable X → Alignable Y → e ≤ d → StickyEquivalent 2 (2 ^ (d - e)) Y v
@@ -120,8 +120,8 @@ module _ (p : Bool) (x y u l : Scaled) (upper : u ≡ cond p y x) (lower : l ≡
   lower_le q = subst (λ (z : Scaled). z.exponent ≤ u.exponent) (sym lower) (subst (λ (z : Scaled). (cond p x y).exponent ≤ z.exponent) (sym upper) (go p q))
     where
       go : (p : Bool) → p ≡ ltb x.exponent y.exponent → (cond p x y).exponent ≤ (cond p y x).exponent
-      go true q = le_of_lt (flag_lt true x.exponent y.exponent q refl)
-      go false q = flag_le false x.exponent y.exponent q refl
+      go true q = le_of_lt (ltb-true x.exponent y.exponent (sym q))
+      go false q = ltb-false x.exponent y.exponent (sym q)
 
   pub sum_ordered : (f : Format) (c : ℕ) → 0 < c → sum f u.number.negative (magnitude u) l.number.negative (magnitude l) c ≡ sum f x.number.negative (magnitude x) y.number.negative (magnitude y) c
   sum_ordered f c C = (λ i. sum f (upper i).number.negative (magnitude (upper i)) (lower i).number.negative (magnitude (lower i)) c) ∙ go p

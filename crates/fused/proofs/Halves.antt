@@ -1,5 +1,6 @@
 -- x / 2 + 1 / 2 rounded once (IEEE 754-2019, 4.3.1) is the same with product and sum rounded apart, where x is not tiny: halving is exact. Assumes nothing.
 use mathlib.Core.Path.{◌≡◌, refl, sym, ap, ◌∙◌, subst}
+use mathlib.Core.Logic.{inl, inr}
 use mathlib.Core.Bool.{Bool, true, false, ◌||◌, false≢true}
 use Prim.Native.Nat.{ℕ, zero, suc, ◌+◌, ◌*◌, ◌^◌, ◌≤◌, ◌<◌}
 use native.Mathlib.Nat.{mul-one, one-mul, mul_comm, mul_assoc, mul-mul-mul_comm, mul-pos, lt_of_mul-lt-mul_right, mul-lt-mul_of_pos_right, lt_irrefl, lt_of_lt_of_le, le_of_eq, lt_of_le_of_lt, le_of_lt, pow-succ'}
@@ -11,14 +12,14 @@ use lib.Pow.{pow-add, pow_pos, pow-lt}
 use lib.Ieee.{Float, nan, inf, fin, binary64, up, down, unlike, round, sum, mul, add, neg, lt, fits, of_bits}
 use lib.Ieee.Exact.{HasValue, round_exact}
 use lib.Ieee.Fits.{down_pos}
-use Rattle.booleans.proofs.Booleans.{or_either}
+use Rattle.std.proofs.lemmas.Bool.{or_cases}
 use Rattle.binary64.proofs.Integral.{significand_bound}
 use Rattle.rounding.proofs.Exact.{scaled_below}
 use Rattle.rounding.proofs.Sum.{sum_same}
 use Rattle.rounding.proofs.TiesToEven.{in_units}
 use Rattle.fused.specs.Fused.{fused_multiply_add}
 use Rattle.binary64.specs.Constants.{half}
-use Rattle.fused.proofs.Sign.{least_product}
+use Rattle.fused.specs.Tiny.{least_product}
 use Rattle.fused.proofs.Special.{special_factor_apart}
 
 -- a value above 2 ^ -900 is more than one unit, so that half of it is whole units
@@ -66,7 +67,7 @@ added t a d (inf _) D v = elim v [ ]
 
 not_tiny : (s : Bool) (m : ℕ) (e : ℤ) → (lt least_product (fin s m e) || lt (fin s m e) (neg least_product)) ≡ true → down e < m * up e * 2 ^ 900
 unfolding neg lt
-not_tiny false m e h = or_either _ false h (λ l. subst (λ (k : ℕ). k < m * up e * 2 ^ 900) (one-mul (down e)) (ltb-true (1 * down e) (m * up e * 2 ^ 900) l)) (λ l. absurd (false≢true l))
+not_tiny false m e h = elim (or_cases _ false h) [ inl l ↦ subst (λ (k : ℕ). k < m * up e * 2 ^ 900) (one-mul (down e)) (ltb-true (1 * down e) (m * up e * 2 ^ 900) l) | inr l ↦ absurd (false≢true l) ]
 not_tiny true m e h = subst (λ (k : ℕ). k < m * up e * 2 ^ 900) (one-mul (down e)) (ltb-true (1 * down e) (m * up e * 2 ^ 900) h)
 
 pub half_sum_apart : (x : Float) → T (fits binary64 x) → (lt least_product x || lt x (neg least_product)) ≡ true → add binary64 (mul binary64 x half) half ≡ fused_multiply_add binary64 x half half

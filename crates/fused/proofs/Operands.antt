@@ -4,7 +4,7 @@ use Prim.Native.Nat.{ℕ, ◌+◌, ◌*◌, ◌/◌, ◌%◌, ◌^◌, ◌≤◌
 use native.Mathlib.Nat.{le_trans, le_of_eq, lt_of_le_of_lt, mul_assoc, mul_right_comm, mul-mul-mul_comm, mul-le-mul, mul-mod_left, add-zero}
 use native.Mathlib.Omega.{arith}
 use lib.Pow.{pow-add}
-use Rattle.words.proofs.Product.{mul_lt}
+use Rattle.std.proofs.lemmas.Nat.{mul-lt}
 use Rattle.fused.specs.Operands.{Alignable}
 
 -- ---- half a factor: one bit is left for a carry, and nothing is lost
@@ -32,7 +32,7 @@ product_alignable P m n p ml mh mz nl nh =
     let yl : 2 ^ 62 ≤ n / 2 = omega arith in
     let yh : n / 2 < 2 ^ 63 = omega arith in record {
       least = le_trans (mul-le-mul xl yl) (le_of_eq (sym p));
-      most = lt_of_le_of_lt (le_of_eq p) (mul_lt xh yh);
+      most = lt_of_le_of_lt (le_of_eq p) (mul-lt _ _ _ _ xh yh);
       last_bits = ap (λ (w : ℕ). w % 16) (p ∙ ap (λ (w : ℕ). w * (n / 2)) e ∙ mul_right_comm (m / 2 / 16) 16 (n / 2)) ∙ mul-mod_left (m / 2 / 16 * (n / 2)) 16;
     }
 

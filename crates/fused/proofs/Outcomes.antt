@@ -8,8 +8,8 @@ use mathlib.Core.Bool.{Bool, true, false, ◌||◌, cond, beq, true≢false, fal
 use lib.Dec.{T, eqb, ltb, eqb→eq}
 use lib.Pow.{pow_pos}
 use lib.Ieee.{Format, of_bits, round, sum}
-use Rattle.booleans.proofs.Booleans.{true_or_false, signs_equal}
-use Rattle.words.proofs.Order.{flag_lt, flag_le}
+use Rattle.std.specs.Cmp.{booleans_Decides}
+use Rattle.std.proofs.lemmas.Bool.{cases_Bool, ltb-true, ltb-false}
 use Rattle.rounding.proofs.Finite.{zero_pattern}
 use Rattle.rounding.proofs.Sum.{sub_mul, sum_same_sign, sum_opposite_lt, sum_opposite_gt, sum_opposite_eq}
 
@@ -48,8 +48,8 @@ module _ (p : Bool) (a b g l : ℕ) (greater : g ≡ cond p b a) (lesser : l ≡
   lesser_le = go p greater lesser
     where
       go : (p : Bool) → g ≡ cond p b a → l ≡ cond p a b → p ≡ ltb a b → l ≤ g
-      go true h k q = let m = flag_lt true a b q refl in omega arith
-      go false h k q = let m = flag_le false a b q refl in omega arith
+      go true h k q = let m = ltb-true a b (sym q) in omega arith
+      go false h k q = let m = ltb-false a b (sym q) in omega arith
 
   pub greater_plus_lesser : g + l ≡ a + b
   greater_plus_lesser = go p greater lesser
@@ -73,8 +73,8 @@ module _ (p : Bool) (a b g l : ℕ) (greater : g ≡ cond p b a) (lesser : l ≡
     total_opposite r = total ∙ ap (λ (z : Bool). cond z (g + l) (g - l)) r
 
     pub ordered_positive : (n : Bool) → n ≡ cond p t s → 0 < v → round f n (v * 2 ^ e) c ≡ sum f s (a * 2 ^ e) t (b * 2 ^ e) c
-    ordered_positive n sign some = elim (true_or_false (beq s t)) [
-      | inl r ↦ ap (λ (z : Bool). round f z (v * 2 ^ e) c) (same p sign (signs_equal s t r)) ∙ outcome_same_sign f s t a b e c v (signs_equal s t r) (total_same r)
+    ordered_positive n sign some = elim (cases_Bool (beq s t)) [
+      | inl r ↦ ap (λ (z : Bool). round f z (v * 2 ^ e) c) (same p sign ((booleans_Decides s t).0 r)) ∙ outcome_same_sign f s t a b e c v ((booleans_Decides s t).0 r) (total_same r)
       | inr r ↦ opposite p less greater lesser sign (signs_differ s t r) (total_opposite r)
     ]
       where
@@ -83,11 +83,11 @@ module _ (p : Bool) (a b g l : ℕ) (greater : g ≡ cond p b a) (lesser : l ≡
         same false h q = h
 
         opposite : (p : Bool) → p ≡ ltb a b → g ≡ cond p b a → l ≡ cond p a b → n ≡ cond p t s → (s ≡ t → ⊥) → v ≡ g - l → round f n (v * 2 ^ e) c ≡ sum f s (a * 2 ^ e) t (b * 2 ^ e) c
-        opposite true m h k q differ d = ap (λ (z : Bool). round f z (v * 2 ^ e) c) q ∙ outcome_lt f s t a b e c v differ (flag_lt true a b m refl) (omega arith)
+        opposite true m h k q differ d = ap (λ (z : Bool). round f z (v * 2 ^ e) c) q ∙ outcome_lt f s t a b e c v differ (ltb-true a b (sym m)) (omega arith)
         opposite false m h k q differ d = ap (λ (z : Bool). round f z (v * 2 ^ e) c) q ∙ outcome_gt f s t a b e c v differ (omega arith) some
 
     pub ordered_zero : v ≡ 0 → 0 < a + b → 0 < c → of_bits f 0 ≡ sum f s (a * 2 ^ e) t (b * 2 ^ e) c
-    ordered_zero none some C = elim (true_or_false (beq s t)) [
+    ordered_zero none some C = elim (cases_Bool (beq s t)) [
       | inl r ↦ absurd (let k = total_same r in let z : ⊥ = omega arith in z)
       | inr r ↦
           let k : g ≡ l = let m = lesser_le less in let d = total_opposite r in omega arith in

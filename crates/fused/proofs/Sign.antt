@@ -2,7 +2,7 @@
 -- A rounding keeps the order, and p is its own rounding; and where no digit of the exact product lies below the format's smallest value, a difference above zero doesn't round to zero.
 -- Assumes nothing.
 use mathlib.Core.Path.{◌≡◌, refl, sym, ap, ◌∙◌, subst}
-use mathlib.Core.Logic.{◌⊎◌, inl, inr}
+use mathlib.Core.Logic.{◌⊎◌, inl, inr, ⊎_elim}
 use mathlib.Core.Bool.{Bool, true, false, not, ◌&&◌, ◌||◌, cond, true≢false, false≢true}
 use Prim.Native.Nat.{ℕ, zero, suc, ◌+◌, ◌-◌, ◌*◌, ◌%◌, ◌^◌, ◌≤◌, ◌<◌, zero-le}
 use native.Mathlib.Nat.{zero-mul, one-mul, mul-one, mul_comm, mul_assoc, mul_right_comm, mul-pos, mul-le-mul, mul-le-mul_right, lt_of_mul-lt-mul_right, le_trans, le_of_eq, le_of_lt, lt_of_le_of_lt, suc-mul}
@@ -17,15 +17,16 @@ use lib.Ieee.Fits.{up_pos, down_pos, and_l, and_r}
 use lib.Ieee.Order.{round_mono}
 use lib.Ieee.Positive.{first_pos, above, above_of_le}
 use lib.Ieee.Scale.{finite}
-use Rattle.booleans.proofs.Booleans.{or_either}
+use Rattle.std.proofs.lemmas.Bool.{or_cases}
 use Rattle.binary64.proofs.FloatOrder.{signs_apart, lt_asymmetric, le_not_lt, le_of_not_lt}
 use Rattle.binary64.proofs.Integral.{significand_bound}
 use Rattle.binary64.proofs.Negation.{neg_round}
 use Rattle.binary64.proofs.NotNan.{Signed, infinite, number, signed_not_nan, round_signed}
-use Rattle.words.proofs.Order.{lt_or_le}
+use Rattle.std.proofs.lemmas.Bool.{cases_lt}
 use Rattle.rounding.proofs.Sum.{sum_same_sign, sum_opposite_gt, sum_opposite_lt}
 use Rattle.rounding.proofs.Exact.{rounding_not_below, rounding_not_above}
 use Rattle.fused.specs.Fused.{fused_multiply_add}
+use Rattle.fused.specs.Tiny.{least_product}
 use Rattle.fused.proofs.Special.{special_factor_apart}
 
 abbrev zero_f : Float
@@ -50,10 +51,10 @@ module _ (f : Format) (s : Bool) (a c m : ℕ) (e : ℤ) (C : 0 < c) (t : T (fit
   not_above h = le_not_lt (fin false m e) (round f false a c) (is_true _ (rounding_not_above f s a c m e C t h))
 
   below_says : lt (round f false a c) (fin false m e) ≡ true → a * down e < m * up e * c
-  below_says h = elim (lt_or_le (a * down e) (m * up e * c)) [ inl l ↦ l | inr l ↦ absurd (true≢false (sym h ∙ not_below l)) ]
+  below_says h = elim (cases_lt (a * down e) (m * up e * c)) [ inl l ↦ l | inr l ↦ absurd (true≢false (sym h ∙ not_below l)) ]
 
   above_says : lt (fin false m e) (round f false a c) ≡ true → m * up e * c < a * down e
-  above_says h = elim (lt_or_le (m * up e * c) (a * down e)) [ inl l ↦ l | inr l ↦ absurd (true≢false (sym h ∙ not_above l)) ]
+  above_says h = elim (cases_lt (m * up e * c) (a * down e)) [ inl l ↦ l | inr l ↦ absurd (true≢false (sym h ∙ not_above l)) ]
 
 -- ---- the order of values of either sign
 neg_lt_left : {r : Float} (m : ℕ) (e : ℤ) → Signed false r → lt (neg r) (fin true m e) ≡ lt (fin false m e) r
@@ -124,7 +125,7 @@ product_power c d p q = (p.0 + q.0, rw (p.1, q.1, pow-add 2 p.0 q.0))
 -- of two powers one divides the other
 divides : (c d : ℕ) → Power c → Power d → ((k : ℕ) × (c ≡ k * d)) ⊎ ((k : ℕ) × (d ≡ k * c))
 divides c d p q =
-    elim (lt_or_le p.0 q.0) [
+    elim (cases_lt p.0 q.0) [
       | inl l ↦ inr (2 ^ (q.0 - p.0), rw (p.1, q.1, ← pow-add 2 (q.0 - p.0) p.0) (ap (λ (k : ℕ). 2 ^ k) (let z : q.0 ≡ q.0 - p.0 + p.0 = omega arith in z)))
       | inr l ↦ inl (2 ^ (p.0 - q.0), rw (p.1, q.1, ← pow-add 2 (p.0 - q.0) q.0) (ap (λ (k : ℕ). 2 ^ k) (let z : p.0 ≡ p.0 - q.0 + q.0 = omega arith in z)))
     ]
@@ -175,10 +176,6 @@ difference_above s a c u m e P L A t h = go s u t h
     go true false t h = absurd (true≢false (sym h ∙ signs_apart (round_signed binary64 true a c) (number m e)))
 
 -- ---- a product that is not tiny
--- 2 ^ -900
-abbrev pub least_product : Float
-least_product = fin false 1 (negsuc 899)
-
 least_fits : T (fits binary64 least_product)
 unfolding fits
 least_fits = tt
@@ -194,10 +191,12 @@ few_digits m n (negsuc i) (negsuc j) M N E D h =
 
 not_tiny : (s : Bool) (a c : ℕ) → (lt least_product (round binary64 s a c) || lt (round binary64 s a c) (neg least_product)) ≡ true → lt least_product (round binary64 false a c) ≡ true
 unfolding neg
-not_tiny false a c h = or_either _ _ h (λ l. l) (λ l. absurd (true≢false (sym l ∙ signs_apart (number 1 (negsuc 899)) (round_signed binary64 false a c))))
+not_tiny false a c h = elim (or_cases _ _ h) [ inl l ↦ l | inr l ↦ absurd (true≢false (sym l ∙ signs_apart (number 1 (negsuc 899)) (round_signed binary64 false a c))) ]
 not_tiny true a c h =
-    or_either _ _ h (λ l. absurd (true≢false (sym l ∙ signs_apart (round_signed binary64 true a c) (number 1 (negsuc 899)))))
-    (λ l. sym (neg_lt_left 1 (negsuc 899) (round_signed binary64 false a c)) ∙ (rw (neg_round binary64 false a c) l))
+    elim (or_cases _ _ h) [
+      | inl l ↦ absurd (true≢false (sym l ∙ signs_apart (round_signed binary64 true a c) (number 1 (negsuc 899))))
+      | inr l ↦ sym (neg_lt_left 1 (negsuc 899) (round_signed binary64 false a c)) ∙ (rw (neg_round binary64 false a c) l)
+    ]
 
 -- ---- the whole law
 module _ (s t u : Bool) (m n o : ℕ) (e d g : ℤ) (mf : T (fits binary64 (fin s m e))) (nf : T (fits binary64 (fin t n d))) (of : T (fits binary64 (fin u o g))) where
@@ -208,13 +207,14 @@ module _ (s t u : Bool) (m n o : ℕ) (e d g : ℤ) (mf : T (fits binary64 (fin 
       → le (difference binary64 (unlike s t) (m * up e * (n * up d)) (down e * down d) u o g) zero_f ≡ lt product (fin u o g)
   finite_decides h k =
       let C = mul-pos (down_pos e) (down_pos d) in
-      or_either _ _ h (λ l. difference_not_above binary64 (unlike s t) _ _ u o g C of l ∙ sym l)
+      ⊎_elim (λ l. difference_not_above binary64 (unlike s t) _ _ u o g C of l ∙ sym l)
       (λ l.
       let large : down e * down d < m * up e * (n * up d) * 2 ^ 900 = rw (one-mul (down e * down d)) at (above_says binary64 false (m * up e * (n * up d)) (down e * down d) 1 (negsuc 899) C least_fits (not_tiny (unlike s t) _ _ k)) in
       difference_above (unlike s t) _ _ u o g (product_power (down e) (down d) (down_power e) (down_power d))
       (few_digits m n e d (significand_bound binary64 s m e mf).0 (significand_bound binary64 t n d nf).0 (denominator_bound binary64 s m e mf) (denominator_bound binary64 t n d nf) large)
       (first_pos (m * up e * (n * up d)) (2 ^ 900) (lt_of_le_of_lt zero-le large)) of l
       ∙ sym (lt_asymmetric (fin u o g) product l))
+      (or_cases _ _ h)
 
 -- an infinite product, or none
 infinite_decides : (s : Bool) (p : Float) → (lt (inf s) p || lt p (inf s)) ≡ true → le (add binary64 (inf s) (neg p)) zero_f ≡ lt (inf s) p

@@ -7,7 +7,7 @@ use native.Mathlib.Omega.{arith}
 use lib.Dec.{lit<}
 use lib.Arith.{digits_div, digits_mod}
 use Rattle.words.specs.Sticky.{StickyEquivalent}
-use Rattle.words.proofs.Order.{lt_or_le}
+use Rattle.std.proofs.lemmas.Bool.{cases_lt}
 use Rattle.words.proofs.StickyShift.{multiple_split, multiple_join}
 use Rattle.rounding.proofs.Sum.{sub_mul}
 
@@ -86,9 +86,9 @@ sticky_subtract g D n t U pos_d sticky m ln lt =
 
 -- ---- nothing was shifted out
 same_parity : (y t : ℕ) → y / 2 ≡ t / 2 → (y % 2 ≡ 0 → t % 2 ≡ 0) → (t % 2 ≡ 0 → y % 2 ≡ 0) → y ≡ t
-same_parity y t e f g = elim (lt_or_le (y % 2) 1) [
+same_parity y t e f g = elim (cases_lt (y % 2) 1) [
   | inl l ↦ let k : t % 2 ≡ 0 = f (let z : y % 2 ≡ 0 = omega arith in z) in omega arith
-  | inr h ↦ elim (lt_or_le (t % 2) 1) [
+  | inr h ↦ elim (cases_lt (t % 2) 1) [
     | inl l ↦ let k : y % 2 ≡ 0 = g (let z : t % 2 ≡ 0 = omega arith in z) in omega arith
     | inr k ↦ omega arith
   ]

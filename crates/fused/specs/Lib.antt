@@ -1,3 +1,4 @@
 pub mod Fused
 pub mod Operands
+pub mod Tiny
 pub mod FusedOrder

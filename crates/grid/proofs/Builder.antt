@@ -5,11 +5,12 @@ use Rattle.sequences.specs.Tabulate.{overwrite}
 use Rattle.sequences.specs.Starts.{start_of, starts_of, concatenate}
 use Rattle.sequences.proofs.Starts.{length_concatenate, concatenate_extensional, starts_extensional, flatten_append}
 use Rattle.refusal.specs.declared.Refusal.{Refusal}
-use Rattle.std.specs.Prelude.{Result, Ok, Err}
-use Rattle.refusal.specs.declared.Refusal.TheVariants.{Position, Room}
-use Rattle.refusal.specs.Refusal.{Verdict, row, then}
+use Rattle.std.specs.Prelude.{Ok, Err}
+use Rattle.refusal.specs.declared.Refusal.TheVariants.{Room}
+use Rattle.refusal.specs.Refusal.{row}
 use Rattle.mesh.specs.Mesh.{Mesh, count}
-use Rattle.mesh.specs.Rows.{positions_admissible, adjacency_rows, checked_mesh, mesh_rows}
+use Rattle.mesh.specs.Rows.{checked_mesh, mesh_rows}
+use Rattle.mesh.proofs.Made.{checked_refused}
 use Rattle.grid.specs.declared.settings.Settings.{Settings}
 use Rattle.grid.specs.Settings.{settings_rows}
 use Rattle.grid.specs.Cells.{side_of, cell_count}
@@ -31,22 +32,10 @@ pub build_refused_mesh : (m : Mesh) (settings : Settings) (lent : GridSlices) (r
 unfolding build_grid build_rows
 build_refused_mesh m settings lent reason h = rw h refl
 
--- one of which no mesh is made, or which is itself where one is
-pub mesh_made : (m made : Mesh) → checked_mesh m ≡ Ok made → (adjacency_rows m ≡ Ok tt) × (m ≡ made)
-unfolding checked_mesh
-mesh_made m made h = go (adjacency_rows m) refl
-  where
-    go : (v : Verdict) → adjacency_rows m ≡ v → (adjacency_rows m ≡ Ok tt) × (m ≡ made)
-    go (Ok tt) e = (e, (let k : ◌≡◌ {A = Result Mesh Refusal} (Ok m) (Ok made) = rw e at h in cc))
-    go (Err reason) e = let k : ◌≡◌ {A = Result Mesh Refusal} (Err reason) (Ok made) = rw e at h in cc
-
+-- one of which no mesh is made
 pub mesh_refused : (m : Mesh) (reason : Refusal) → checked_mesh m ≡ Err reason → mesh_rows m ≡ Err reason
-unfolding checked_mesh mesh_rows
-mesh_refused m reason h = go (adjacency_rows m) refl
-  where
-    go : (v : Verdict) → adjacency_rows m ≡ v → then (adjacency_rows m) (row (positions_admissible m.positions) Position (Ok tt)) ≡ Err reason
-    go (Ok tt) e = let k : ◌≡◌ {A = Result Mesh Refusal} (Ok m) (Err reason) = rw e at h in cc
-    go (Err own) e = rw e (let k : ◌≡◌ {A = Result Mesh Refusal} (Err own) (Err reason) = rw e at h in cc)
+unfolding mesh_rows
+mesh_refused m reason h = rw (checked_refused m reason h) refl
 
 -- a pair that row 19 or 20 refuses
 pub build_refused_settings : (m : Mesh) (settings : Settings) (lent : GridSlices) (reason : Refusal) → mesh_rows m ≡ Ok tt → settings_rows settings (Ok tt) ≡ Err reason

@@ -2,7 +2,7 @@
 use Rattle.std.proofs.Common.{◌≡◌, ℕ, zero, suc, ◌+◌, ◌-◌, ◌*◌, ◌/◌, ◌%◌, ◌≤◌, true, false, ◌&&◌, leb, List, length, ℤ, pos, negsuc, refl, ap, ◌∙◌, mul-le-mul, zero-mul, arith, le-leb, leb-true}
 use mathlib.Core.List.{Memᴰ}
 use lib.Ieee.{Float, lt}
-use Rattle.booleans.proofs.Booleans.{and_split, and_intro}
+use Rattle.std.proofs.lemmas.Bool.{and_parts, and_from}
 use Rattle.sequences.specs.Range.{sum_below}
 use Rattle.sequences.specs.Starts.{start_of}
 use Rattle.binary64.specs.Convert.{to_i64}
@@ -28,8 +28,8 @@ use Rattle.grid.proofs.Builder.{cell_ids_total}
 near_grows : (margin wider c : ℕ) (z : ℤ) → margin ≤ wider → near margin z c ≡ true → near wider z c ≡ true
 unfolding near
 near_grows margin wider c (pos k) more h =
-    let both = and_split (leb k (c + margin)) (leb c (k + margin)) h in
-    and_intro _ _ (le-leb k (c + wider) (omega (arith, leb-true k (c + margin) both.0))) (le-leb c (k + wider) (omega (arith, leb-true c (k + margin) both.1)))
+    let both = and_parts (leb k (c + margin)) (leb c (k + margin)) h in
+    and_from _ _ (le-leb k (c + wider) (omega (arith, leb-true k (c + margin) both.0))) (le-leb c (k + wider) (omega (arith, leb-true c (k + margin) both.1)))
 near_grows margin wider c (negsuc k) more h = le-leb (suc k + c) wider (omega (arith, leb-true (suc k + c) margin h))
 
 placed_grows : (margin wider g cell : ℕ) (v : Vector3) → margin ≤ wider → placed_in margin g cell v ≡ true → placed_in wider g cell v ≡ true
@@ -40,10 +40,10 @@ placed_grows margin wider g cell v more h =
     let column = cell % g in
     let u = to_i64 (across_cells g p.u p.d) in
     let w = to_i64 (across_cells g p.w p.d) in
-    let front = and_split (lt positive_zero p.d) (near margin u row && near margin w column) h in
-    let both = and_split (near margin u row) (near margin w column) front.1 in
-    and_intro (lt positive_zero p.d) (near wider u row && near wider w column) front.0
-    (and_intro (near wider u row) (near wider w column) (near_grows margin wider row u more both.0) (near_grows margin wider column w more both.1))
+    let front = and_parts (lt positive_zero p.d) (near margin u row && near margin w column) h in
+    let both = and_parts (near margin u row) (near margin w column) front.1 in
+    and_from (lt positive_zero p.d) (near wider u row && near wider w column) front.0
+    (and_from (near wider u row) (near wider w column) (near_grows margin wider row u more both.0) (near_grows margin wider column w more both.1))
 
 pub margin_grows : (m : Mesh) (factor : Float) (margin wider cell v : ℕ) → margin ≤ wider → Memᴰ v (ids_in m (settings_with factor margin) cell) → Memᴰ v (ids_in m (settings_with factor wider) cell)
 margin_grows m factor margin wider cell v more h =
@@ -52,12 +52,12 @@ margin_grows m factor margin wider cell v more h =
 
 -- ---- three faces
 module _ (positions : List Float) (margin g v : ℕ) where
-  abbrev place : (face : ℕ) → (p : Placement) × Placed margin g face (position_of positions v) p × (lt positive_zero (face_projection face (position_of positions v)).d ≡ false → p.rows.end ≡ p.rows.first)
+  abbrev place : (face : ℕ) → (p : Placement) × Placed margin g face (position_of positions v) p × (lt positive_zero (face_projection face (position_of positions v)).d ≡ false → p.rows.end ≡ p.rows.start)
   place face = some_placement margin g face (position_of positions v)
 
   -- the cells of the vertex on a face
   abbrev area : ℕ → ℕ
-  area face = let p = (place face).0 in (p.rows.end - p.rows.first) * (p.columns.end - p.columns.first)
+  area face = let p = (place face).0 in (p.rows.end - p.rows.start) * (p.columns.end - p.columns.start)
 
   area_most : (face : ℕ) → area face ≤ breadth margin * breadth margin
   area_most face = area_few positions margin g v face (place face).0 (place face).1
@@ -65,8 +65,8 @@ module _ (positions : List Float) (margin g v : ℕ) where
   area_none : (face : ℕ) → lt positive_zero (face_projection face (position_of positions v)).d ≡ false → area face ≡ 0
   area_none face behind =
       let p = (place face).0 in
-      let rows : p.rows.end - p.rows.first ≡ 0 = omega (arith, (place face).2 behind) in
-      ap (λ (k : ℕ). k * (p.columns.end - p.columns.first)) rows ∙ zero-mul (p.columns.end - p.columns.first)
+      let rows : p.rows.end - p.rows.start ≡ 0 = omega (arith, (place face).2 behind) in
+      ap (λ (k : ℕ). k * (p.columns.end - p.columns.start)) rows ∙ zero-mul (p.columns.end - p.columns.start)
 
   abbrev total : ℕ → ℕ
   total face = start_of (ids_during positions margin g v (face * (g * g))) (cell_count g)

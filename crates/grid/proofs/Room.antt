@@ -23,15 +23,6 @@ use Rattle.grid.proofs.Triangles.{triangle_of_member, triangle_at_renumbered, at
 use Rattle.grid.proofs.Grid.{triangle_starts_length}
 
 -- ---- no triangle is found twice
-first_corner_lem : (i i₁ j j₁ : ℕ) (l l₁ : List ℕ) → i ∷ j ∷ l ≡ i₁ ∷ j₁ ∷ l₁ → i ≡ i₁
-first_corner_lem i i₁ j j₁ l l₁ e = cc
-
-second_corner : (i i₁ j j₁ : ℕ) (l l₁ : List ℕ) → i ∷ j ∷ l ≡ i₁ ∷ j₁ ∷ l₁ → j ≡ j₁
-second_corner i i₁ j j₁ l l₁ e = cc
-
-third_corner : (i j k k₁ : ℕ) → ◌≡◌ {A = List ℕ} (i ∷ j ∷ k ∷ []) (i ∷ j ∷ k₁ ∷ []) → k ≡ k₁
-third_corner i j k k₁ e = cc
-
 -- a triangle that is found at i and j has them as its first two corners
 edge_corners : (m : Mesh) (i j : ℕ) (t : List ℕ) → Memᴰ t (triangles_of_edge m i j) → (k : ℕ) × (t ≡ i ∷ j ∷ k ∷ [])
 unfolding triangles_of_edge
@@ -48,7 +39,7 @@ module _ (m : Mesh) (no-repeat : NoRepeat m) where
   edge_distinct : (i j : ℕ) → i < count m → Distinct (triangles_of_edge m i j)
   unfolding triangles_of_edge
   edge_distinct i j lt =
-      distinct_map (λ (k : ℕ). i ∷ j ∷ k ∷ []) (filter (λ k. ltb j k && is_member k (neighbours m j)) (neighbours m i)) (λ x y hx hy e. third_corner i j x y e)
+      distinct_map (λ (k : ℕ). i ∷ j ∷ k ∷ []) (filter (λ k. ltb j k && is_member k (neighbours m j)) (neighbours m i)) (λ x y hx hy e. cc)
       (pairwise_filter (λ x y. x ≢ y) (λ k. ltb j k && is_member k (neighbours m j)) (neighbours m i) (no-repeat i lt))
 
   from_distinct : (i : ℕ) → i < count m → Distinct (triangles_from m i)
@@ -59,7 +50,8 @@ module _ (m : Mesh) (no-repeat : NoRepeat m) where
       (λ j j₁ other s t hs ht e.
       let c = edge_corners m i j s hs in
       let c₁ = edge_corners m i j₁ t ht in
-      other (second_corner i i j j₁ (c.0 ∷ []) (c₁.0 ∷ []) (sym c.1 ∙ e ∙ c₁.1)))
+      let both : i ∷ j ∷ c.0 ∷ [] ≡ i ∷ j₁ ∷ c₁.0 ∷ [] = sym c.1 ∙ e ∙ c₁.1 in
+      other cc)
 
   pub triangles_distinct : Distinct (triangles m)
   unfolding triangles
@@ -68,7 +60,8 @@ module _ (m : Mesh) (no-repeat : NoRepeat m) where
       (λ i i₁ s t less lt hs ht e.
       let c = from_corners m i s hs in
       let c₁ = from_corners m i₁ t ht in
-      let same = first_corner_lem i i₁ c.0 c₁.0 (c.1 ∷ []) (c₁.1 ∷ []) (sym c.2 ∙ e ∙ c₁.2) in
+      let both : i ∷ c.0 ∷ c.1 ∷ [] ≡ i₁ ∷ c₁.0 ∷ c₁.1 ∷ [] = sym c.2 ∙ e ∙ c₁.2 in
+      let same : i ≡ i₁ = cc in
       omega arith)
 
   at_distinct : (v : ℕ) → Distinct (triangles_at m v)

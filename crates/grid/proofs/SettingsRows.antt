@@ -3,7 +3,7 @@ use Rattle.std.proofs.Common.{◌≡◌, ◌≤◌, true, not, T, sym, refl, ap,
 use mathlib.Core.Bool.{false≢true}
 use lib.Ieee.{Float, nan, inf, fin, binary64, of_bits, to_bits, fits, is_nan, lt, le, eq}
 use lib.Ieee.Bits.{of_bits-to_bits}
-use Rattle.booleans.proofs.Booleans.{and_split}
+use Rattle.std.proofs.lemmas.Bool.{and_parts}
 use Rattle.refusal.specs.declared.Refusal.{Refusal}
 use Rattle.std.specs.Prelude.{Ok, Err}
 use Rattle.refusal.specs.declared.Refusal.TheVariants.{Factor, Margin}
@@ -42,7 +42,7 @@ number_at_most (fin s m e) h = tt
 
 pub factor_at_most : (x : Float) → factor_fits x ≡ true → le x greatest_factor ≡ true
 unfolding factor_fits
-factor_at_most x h = (and_split (le least_factor x) (le x greatest_factor) h).1
+factor_at_most x h = (and_parts (le least_factor x) (le x greatest_factor) h).1
 
 -- the usual factor, as code knows it
 pub usual_by_bits : (x : Float) → T (fits binary64 x) → to_bits binary64 x ≡ 0x3ff3333333333333 → x ≡ usual_factor

@@ -1,14 +1,14 @@
 -- Bounds of the side of a grid, for every count from 1 to 65,536: from 2 to 420 for every factor that row 19 lets pass, and to 126 for 1.2. Assumes nothing.
-use Rattle.std.proofs.Common.{◌≡◌, ℕ, ◌*◌, ◌^◌, ◌<◌, ◌≤◌, Bool, true, false, T, pos, negsuc, sym, refl, ◌∙◌, subst, mul-le-mul_right, mul_comm, arith, lt→ltb}
+use Rattle.std.proofs.Common.{◌≡◌, ℕ, ◌*◌, ◌^◌, ◌<◌, ◌≤◌, true, false, T, pos, negsuc, refl, ◌∙◌, subst, mul-le-mul_right, mul_comm, arith, lt→ltb}
 use lib.Ieee.{Float, nan, inf, fin, binary64, up, down, lt, le, round, mul, div, of_int, of_bits}
 use lib.Ieee.Bits.{is_true}
 use lib.Ieee.Exact.{HasValue}
 use lib.Ieee.Fits.{down_pos, mul-fits}
 use lib.Ieee.Positive.{positive, positive-finite, values_of_le, between, mul_mono}
-use Rattle.booleans.proofs.Booleans.{and_split}
+use Rattle.std.proofs.lemmas.Bool.{and_parts}
 use Rattle.binary64.specs.Integral.{ceil_of}
 use Rattle.binary64.proofs.Integral.{ceil_not_below, ceil_least}
-use Rattle.binary64.proofs.LessThan.{le_transitive}
+use Rattle.std.proofs.lemmas.Float as float
 use Rattle.binary64.proofs.NotNan.{finite_not_nan}
 use Rattle.binary64.proofs.SignedOrder.{positive_not_below}
 use Rattle.binary64.proofs.WholeNumbers.{whole_positive, whole_monotone, to_unsigned_whole, to_unsigned_monotone, above_minus_one}
@@ -52,13 +52,10 @@ module _ (n : ℕ) (some : 1 ≤ n) (few : n ≤ greatest_count) where
   quotient_positive = between lowest quotient highest quotient_ends.0 quotient_ends.1 above_lowest below_highest
 
   pub quotient_above : T (le (fin false 1 (negsuc 2)) quotient)
-  quotient_above = le_transitive (fin false 1 (negsuc 2)) lowest quotient quotient_ends.2 above_lowest
+  quotient_above = float.le_trans (fin false 1 (negsuc 2)) lowest quotient quotient_ends.2 above_lowest
 
   pub quotient_below : T (le quotient (fin false 10923 (pos 0)))
-  quotient_below = le_transitive quotient highest (fin false 10923 (pos 0)) below_highest quotient_ends.3
-
-flag_true : (b : Bool) → b ≡ true → T b
-flag_true b e = subst T (sym e) tt
+  quotient_below = float.le_trans quotient highest (fin false 10923 (pos 0)) below_highest quotient_ends.3
 
 -- ---- the root
 -- the ends, by evaluation: from a quarter to 105
@@ -73,16 +70,16 @@ module _ (x : Float) (above : T (le (fin false 1 (negsuc 2)) x)) (below : T (le 
 
   not_below_zero : T (le positive_zero x)
   unfolding of_bits
-  not_below_zero = le_transitive positive_zero (fin false 1 (negsuc 2)) x (positive_not_below (fin false 1 (negsuc 2)) tt) above
+  not_below_zero = float.le_trans positive_zero (fin false 1 (negsuc 2)) x (positive_not_below (fin false 1 (negsuc 2)) tt) above
 
   pub root_at_most : T (le root (fin false 105 (pos 0)))
   unfolding of_bits
   root_at_most =
-      le_transitive root (square_root binary64 (fin false 10923 (pos 0))) (fin false 105 (pos 0)) (square_root_monotone binary64 x (fin false 10923 (pos 0)) not_below_zero below) root_ends.1
+      float.le_trans root (square_root binary64 (fin false 10923 (pos 0))) (fin false 105 (pos 0)) (square_root_monotone binary64 x (fin false 10923 (pos 0)) not_below_zero below) root_ends.1
 
   pub root_at_least : T (le (fin false 1 (negsuc 1)) root)
   root_at_least =
-      le_transitive (fin false 1 (negsuc 1)) (square_root binary64 (fin false 1 (negsuc 2))) root root_ends.0
+      float.le_trans (fin false 1 (negsuc 1)) (square_root binary64 (fin false 1 (negsuc 2))) root root_ends.0
       (square_root_monotone binary64 (fin false 1 (negsuc 2)) x (positive_not_below (fin false 1 (negsuc 2)) tt) above)
 
   pub root_positive : T (positive root)
@@ -129,7 +126,7 @@ usual_reach = record {
 pub allowed_reach : (factor : Float) → factor_fits factor ≡ true → FactorReach factor 420
 unfolding mul round factor_fits of_bits
 allowed_reach factor h =
-    let both = and_split (le least_factor factor) (le factor greatest_factor) h in
+    let both = and_parts (le least_factor factor) (le factor greatest_factor) h in
     record {
       low = least_factor;
       high = greatest_factor;
@@ -139,8 +136,8 @@ allowed_reach factor h =
       high_positive = tt;
       bottom_positive = tt;
       top_positive = tt;
-      least = flag_true _ both.0;
-      most = flag_true _ both.1;
+      least = float.T_from_true _ both.0;
+      most = float.T_from_true _ both.1;
       bottom_is = refl;
       top_is = refl;
       top_value = (refl, refl);

@@ -4,10 +4,10 @@ use Rattle.std.proofs.Common.{◌≡◌, ℕ, ◌+◌, ◌-◌, ◌*◌, ◌/◌
 use lib.Ieee.{Float, binary64, le, mul, div, of_int, to_unsigned, fits}
 use lib.Ieee.Fits.{mul-fits}
 use lib.Ieee.Positive.{num, den, den_pos, positive, positive-finite, own_value}
-use Rattle.booleans.proofs.Booleans.{and_split}
+use Rattle.std.proofs.lemmas.Bool.{and_parts}
 use Rattle.binary64.specs.Integral.{ceil_of, round_to_integral}
 use Rattle.binary64.proofs.Integral.{integral_exact, ceil_not_below, ceil_least}
-use Rattle.binary64.proofs.LessThan.{le_transitive}
+use Rattle.std.proofs.lemmas.Float as float
 use Rattle.binary64.proofs.NotNan.{finite_not_nan}
 use Rattle.binary64.proofs.SignedOrder.{positive_not_below}
 use Rattle.binary64.proofs.Tests.{Tested, tested}
@@ -26,7 +26,7 @@ use Rattle.grid.proofs.SideBound.{quotient, quotient_grows, quotient_positive, q
 ceil_grows : (x y : Float) → T (fits binary64 x) → T (fits binary64 y) → T (positive y) → T (le x y) → T (le (ceil_of x) (ceil_of y))
 ceil_grows x y fx fy py h =
     ceil_least x (ceil_of y) false _ fx (integral_exact _ y false (num y) (den y) fy (den_pos y) (own_value y py))
-    (le_transitive x y (ceil_of y) h (ceil_not_below y fy (finite_not_nan y (positive-finite y py))))
+    (float.le_trans x y (ceil_of y) h (ceil_not_below y fy (finite_not_nan y (positive-finite y py))))
 
 module _ (n k : ℕ) (some : 1 ≤ n) (grown : n ≤ k) (few : k ≤ greatest_count) where
   pub side_grows : side_of usual_factor n ≤ side_of usual_factor k
@@ -90,13 +90,13 @@ last_few g h = let s : g * g ≤ 125 * 125 = mul-le-mul h h in omega arith
 module _ (n g : ℕ) (some : 1 ≤ n) (few : n ≤ greatest_count) (lower : 2 ≤ g) (upper : g ≤ 125) where
   at_most_side : 6 * n ≤ 25 * (g * g) → side_of usual_factor n ≤ g
   at_most_side h =
-      let e = eqb-true (side_of usual_factor (last_count g)) g (and_split (eqb (side_of usual_factor (last_count g)) g) (eqb (side_of usual_factor (last_count g + 1)) (g + 1)) (ends g lower upper)).0 in
+      let e = eqb-true (side_of usual_factor (last_count g)) g (and_parts (eqb (side_of usual_factor (last_count g)) g) (eqb (side_of usual_factor (last_count g + 1)) (g + 1)) (ends g lower upper)).0 in
       let z = side_grows n (last_count g) some (omega arith) (omega (arith, last_few g upper)) in
       omega arith
 
   above_side : 25 * (g * g) < 6 * n → g + 1 ≤ side_of usual_factor n
   above_side h =
-      let e = eqb-true (side_of usual_factor (last_count g + 1)) (g + 1) (and_split (eqb (side_of usual_factor (last_count g)) g) (eqb (side_of usual_factor (last_count g + 1)) (g + 1)) (ends g lower upper)).1 in
+      let e = eqb-true (side_of usual_factor (last_count g + 1)) (g + 1) (and_parts (eqb (side_of usual_factor (last_count g)) g) (eqb (side_of usual_factor (last_count g + 1)) (g + 1)) (ends g lower upper)).1 in
       let z = side_grows (last_count g + 1) n (omega arith) (omega arith) few in
       omega arith
 

@@ -10,7 +10,7 @@ use lib.Ieee.Positive.{num, den, den_pos, positive, positive-finite, own_value, 
 use Rattle.binary64.specs.Convert.{whole}
 use Rattle.binary64.proofs.Integral.{integral_exact, ceil_not_below, ceil_least}
 use Rattle.binary64.proofs.FloatOrder.{le_not_lt, le_of_not_lt}
-use Rattle.binary64.proofs.LessThan.{le_transitive}
+use Rattle.std.proofs.lemmas.Float as float
 use Rattle.binary64.proofs.NotNan.{finite_number, finite_not_nan}
 use Rattle.binary64.proofs.Tests.{Tested, tested}
 use Rattle.binary64.proofs.WholeNumbers.{whole_value, whole_positive, to_unsigned_whole, whole_converted, to_unsigned_monotone}
@@ -81,7 +81,7 @@ module _ (factor : Float) (allowed : factor_fits factor ≡ true) (n : ℕ) (som
         go (no d) =
             let below = le_of_values ceiling (whole k) (to_unsigned 64 ceiling) 1 k 1 (omega arith) (omega arith) whole_ceiling k_value (omega arith) in
             let reached = ceil_not_below across across_fits (finite_not_nan across (positive-finite across across_is_positive)) in
-            let whole-way = le_transitive across ceiling (whole k) reached below in
+            let whole-way = float.le_trans across ceiling (whole k) reached below in
             absurd (true≢false (sym (is_true _ h) ∙ le_not_lt (whole k) across (is_true _ whole-way)))
 
     not_above : lt (whole k) across ≡ false → T (le across (whole k))

@@ -1,7 +1,7 @@
 -- What rows 2, 19, 20, 2 and 3 tell of a stored grid: `stored_facts`. Assumes nothing.
 use Rattle.std.proofs.Common.{◌≡◌, suc, ◌+◌, ◌*◌, ◌%◌, ◌≤◌, true, ◌&&◌, eqb, leb, List, length, sym, ap, ◌∙◌, add-one, arith, eqb-true, leb-true}
 use lib.Ieee.{Float}
-use Rattle.booleans.proofs.Booleans.{and_split}
+use Rattle.std.proofs.lemmas.Bool.{and_parts}
 use Rattle.refusal.specs.declared.Refusal.{Refusal}
 use Rattle.std.specs.Prelude.{Ok, Err}
 use Rattle.refusal.specs.declared.Refusal.TheVariants.{Count, Factor, Margin, Starts}
@@ -12,17 +12,27 @@ use Rattle.mesh.specs.Rows.{greatest_count, positions_fit}
 use Rattle.grid.specs.Settings.{factor_fits, margin_fits, settings_rows}
 use Rattle.grid.specs.Cells.{side_of, cell_count}
 use Rattle.grid.specs.Grid.{Grid}
-use Rattle.grid.specs.Passes.{greatest_side}
+use Rattle.grid.specs.Passes.{greatest_side, GridExtent}
 use Rattle.grid.specs.Stored.{side_fits, both_starts_counted, stored_rows}
-use Rattle.grid.proofs.SettingsRows.{settings_then}
+use Rattle.grid.proofs.SettingsRows.{settings_then, margin_small}
 use Rattle.grid.proofs.SideBound.{side_bound}
 
 -- row 2's limits of the count
 pub positions_count : (positions : List Float) → positions_fit positions ≡ true → (1 ≤ vertex_count positions) × (vertex_count positions ≤ greatest_count)
 unfolding positions_fit
 positions_count positions h =
-    let range = and_split (leb 1 (vertex_count positions)) (leb (vertex_count positions) greatest_count) (and_split (eqb (length positions % 3) 0) _ h).1 in
+    let range = and_parts (leb 1 (vertex_count positions)) (leb (vertex_count positions) greatest_count) (and_parts (eqb (length positions % 3) 0) _ h).1 in
     (leb-true _ _ range.0, leb-true _ _ range.1)
+
+-- a side that its count and factor give can be built
+pub extent_buildable : (grid : Grid) (positions : List Float) → positions_fit positions ≡ true → factor_fits grid.settings.factor ≡ true → margin_fits grid.settings.margin ≡ true → side_fits grid positions ≡ true
+    → GridExtent grid.settings.margin grid.side
+unfolding side_fits
+extent_buildable grid positions counted factor margin side =
+    let count = positions_count positions counted in
+    let same = eqb-true grid.side (side_of grid.settings.factor (vertex_count positions)) side in
+    let bound = side_bound grid.settings.factor (vertex_count positions) factor count.0 count.1 in
+    (omega arith, omega arith, margin_small grid.settings margin)
 
 -- the lengths of the starts as code tests them
 pub starts_tested : (grid : Grid) (positions : List Float)
@@ -71,7 +81,7 @@ stored_facts grid positions h =
     let margin = row_passed (margin_fits grid.settings.margin) Margin _ factor.1 in
     let side = row_passed (side_fits grid positions) Count _ margin.1 in
     let counted = row_passed (both_starts_counted grid positions) Starts (Ok tt) side.1 in
-    let lengths = and_split (eqb (length grid.cell_starts) (suc (cell_count grid.side))) (eqb (length grid.triangle_starts) (suc (vertex_count positions))) counted.0 in
+    let lengths = and_parts (eqb (length grid.cell_starts) (suc (cell_count grid.side))) (eqb (length grid.triangle_starts) (suc (vertex_count positions))) counted.0 in
     let count = positions_count positions fits.0 in
     let same : grid.side ≡ side_of grid.settings.factor (vertex_count positions) = eqb-true _ _ side.0 in
     let bound = side_bound grid.settings.factor (vertex_count positions) factor.0 count.0 count.1 in

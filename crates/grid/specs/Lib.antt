@@ -6,6 +6,7 @@ pub mod Triangles
 pub mod Grid
 pub mod Placing
 pub mod Passes
+pub mod CellLists
 pub mod TrianglePass
 pub mod Builder
 pub mod Stored

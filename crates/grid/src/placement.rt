@@ -1,6 +1,5 @@
 // Placing: how far a vertex lies across a face, and the rows and columns of cells that take it in.
 ghost use Rattle.std.specs.Prelude.{◌≡◌, ◌+◌, ◌*◌, ◌<◌, ◌≤◌};
-ghost use Rattle.binary64.specs.Convert.{converted_of};
 ghost use Rattle.mesh.specs.Rows.{greatest_count};
 ghost use Rattle.grid.specs.Passes.{greatest_side};
 ghost use Rattle.grid.specs.Cells.{cell_count, across_cells};
@@ -9,22 +8,17 @@ ghost use Rattle.grid.specs.Placing.{CellsBelow, Near, Placed};
 
 use crate::cube_face::cube_face_project;
 use crate::extent::Extent;
-use binary64::{Conversion, Converted, to_i64};
+use binary64::{Conversion, to_i64};
 use fused::mul_add_halves;
+use std::ops::Range;
 use vector::Vector3;
 
-// Rows or columns of cells, from the first up to the end, which is not among them.
-#[derive(Clone, Copy)]
-pub struct CellRange {
-    pub first: usize,
-    pub end: usize,
-}
-
 // The cells of a face that a vertex is placed in: rows and columns. And how many of the conversions that gave them were held at an end of the signed range.
-#[derive(Clone, Copy)]
+// A loop goes from a range's start to its end, since the library's ranges are no `Copy`, and `clone` may fail. The columns are gone through once for each row; the rows' range could be moved out, but two loops of one kind would then be written in two ways.
+#[derive(Clone, Drop)]
 pub struct Placement {
-    pub rows: CellRange,
-    pub columns: CellRange,
+    pub rows: Range<usize>,
+    pub columns: Range<usize>,
     pub held: usize,
 }
 
@@ -35,7 +29,7 @@ fn cells_below(coordinate: i64) -> usize
     coordinate.unsigned_abs().min(4) as usize
 }
 
-// The number of a cell, from its face, row and column.
+// The number of a cell, from its face, row and column. This and `across_cells` are of every g up to `greatest_side` and `greatest_count`, and so of sides that no `Extent` has; its methods call them.
 #[inline(always)]
 pub fn cell_number(face: usize, row: usize, column: usize, g: usize) -> usize
     requires face_number { face < 6 }
@@ -55,14 +49,6 @@ pub fn across_cells(g: usize, u: f64, d: f64) -> f64
     mul_add_halves(u / d) * (g as f64)
 }
 
-// The same, converted to a whole number.
-fn cell_across(g: usize, u: f64, d: f64) -> Converted
-    requires { g ≤ greatest_count }
-    ensures { result ≡ converted_of (across_cells g u d) }
-{
-    to_i64(across_cells(g, u, d))
-}
-
 // 1 for a conversion that was held at an end of the signed range.
 fn held_one(how: Conversion) -> usize
     ensures { result ≡ held_one how }
@@ -72,42 +58,34 @@ fn held_one(how: Conversion) -> usize
 
 impl Extent {
     // The rows or columns that are near the converted coordinate. Near an end of the signed range there are none.
-    fn cells_near(self, coordinate: i64) -> CellRange
+    fn cells_near(self, coordinate: i64) -> Range<usize>
         ensures { Near self.margin self.side coordinate result }
     {
         if coordinate < 0 {
             let below = cells_below(coordinate);
             if below > self.margin {
-                return CellRange { first: 0, end: 0 };
+                return 0..0;
             }
             let reach = self.margin + 1 - below;
-            return CellRange {
-                first: 0,
-                end: reach.min(self.side),
-            };
+            return 0..reach.min(self.side);
         }
         let cell = coordinate as usize;
         if cell >= self.side + self.margin {
-            return CellRange {
-                first: self.side,
-                end: self.side,
-            };
+            return self.side..self.side;
         }
         let reach = cell + self.margin + 1;
-        CellRange {
-            first: cell.saturating_sub(self.margin),
-            end: reach.min(self.side),
-        }
+        cell.saturating_sub(self.margin)..reach.min(self.side)
     }
 
-    // The cells of the face that the vertex is placed in.
+    // The cells of the face that the vertex is placed in. Inlined, so that no placement goes through memory.
+    #[inline(always)]
     pub(crate) fn place(self, v: Vector3, face: usize) -> Placement
         ensures { Placed self.margin self.side face v result }
     {
         let seen = cube_face_project(face, v);
         if seen.d > 0.0 {
-            let row = cell_across(self.side, seen.u, seen.d);
-            let column = cell_across(self.side, seen.w, seen.d);
+            let row = to_i64(self.across_cells(seen.u, seen.d));
+            let column = to_i64(self.across_cells(seen.w, seen.d));
             Placement {
                 rows: self.cells_near(row.whole),
                 columns: self.cells_near(column.whole),
@@ -115,8 +93,8 @@ impl Extent {
             }
         } else {
             Placement {
-                rows: CellRange { first: 0, end: 0 },
-                columns: CellRange { first: 0, end: 0 },
+                rows: 0..0,
+                columns: 0..0,
                 held: 0,
             }
         }

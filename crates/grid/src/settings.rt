@@ -41,7 +41,7 @@ impl Settings {
     }
 }
 
-// Whether a factor that is at most 4, and so no NaN, is 1.2: by its bits.
+// Whether a factor that is at most 4, and so no NaN, is 1.2: by its bits, which are the number itself. `factor == 1.2` would need a law more, that equal doubles other than zero are the same.
 #[inline(always)]
 pub(crate) fn is_usual_factor(factor: f64) -> bool
     requires { le factor greatest_factor ≡ true }

@@ -1,9 +1,9 @@
 // The rows of a stored grid, which a query tests before it reads a part of it.
 ghost use Rattle.std.specs.Prelude.{◌≡◌, true, Ok};
 ghost use Rattle.mesh.specs.Rows.{positions_fit};
-ghost use Rattle.grid.specs.Settings.{factor_fits};
 ghost use Rattle.grid.specs.Stored.{side_rows, stored_rows};
 
+use crate::extent::Extent;
 use crate::settings::Settings;
 use crate::side::VertexCount;
 use mesh::{positions_fit, vertex_count};
@@ -31,35 +31,46 @@ impl<'a> Model for StoredGrid<'a> {
 }
 
 impl<'a> StoredGrid<'a> {
-    ghost use Rattle.std.specs.Prelude.{◌≡◌, ◌+◌, ◌≤◌, ◌&&◌, ◌==◌, length};
-    ghost use Rattle.mesh.specs.Rows.{greatest_count};
+    ghost use Rattle.std.specs.Prelude.{◌≡◌, ◌+◌, ◌&&◌, ◌==◌, Ok, length};
     ghost use Rattle.grid.specs.Cells.{cell_count};
-    ghost use Rattle.grid.specs.Passes.{greatest_side};
+    ghost use Rattle.grid.specs.Passes.{GridExtent};
+    ghost use Rattle.grid.specs.Settings.{settings_rows};
 
-    // Whether both start lists are as long as the side and the count ask for.
+    // Its extent, where its pair and its side have passed.
     #[inline(always)]
-    fn lengths_fit(&self, count: usize) -> bool
-        requires few_cells { self.now.side ≤ greatest_side }
-        requires few_vertices { count ≤ greatest_count }
-        ensures { result ≡ ((length self.now.cell_starts == cell_count self.now.side + 1) && (length self.now.triangle_starts == count + 1)) }
+    pub fn extent(&self) -> Extent
+        requires { GridExtent self.now.settings.margin self.now.side }
+        ensures side { result.side ≡ self.now.side }
+        ensures margin { result.margin ≡ self.now.settings.margin }
     {
-        let side = self.side;
-        (self.cell_starts.len() == 6 * (side * side) + 1)
-            & (self.triangle_starts.len() == count + 1)
+        Extent {
+            side: self.side,
+            margin: self.settings.margin as usize,
+        }
+    }
+
+    // Whether both start lists are as long as the extent and the count ask for.
+    #[inline(always)]
+    fn lengths_fit(&self, extent: Extent, vertices: VertexCount) -> bool
+        ensures { result ≡ ((length self.now.cell_starts == cell_count extent.side + 1) && (length self.now.triangle_starts == vertices.count + 1)) }
+    {
+        (self.cell_starts.len() == extent.cells() + 1)
+            & (self.triangle_starts.len() == vertices.count + 1)
     }
 
     // Rows 2 and 3, behind those of the pair: the side, then the lengths of both start lists.
     fn check_side(&self, positions: &[f64]) -> Result<(), Refusal>
         requires positions_fit { positions_fit positions.now ≡ true }
-        requires factor_fits { factor_fits self.now.settings.factor ≡ true }
+        requires pair_fits { settings_rows self.now.settings (Ok tt) ≡ Ok tt }
         ensures { result ≡ side_rows self.now positions.now (Ok tt) }
     {
-        let count = vertex_count(positions);
-        let side = self.side;
-        if !(VertexCount { count }).side_is(side, self.settings.factor) {
+        let vertices = VertexCount {
+            count: vertex_count(positions),
+        };
+        if !vertices.side_is(self.side, self.settings.factor) {
             return Err(Refusal::Count);
         }
-        if !self.lengths_fit(count) {
+        if !self.lengths_fit(self.extent(), vertices) {
             return Err(Refusal::Starts);
         }
         Ok(())
@@ -87,11 +98,12 @@ impl<'a> StoredGrid<'a> {
         if !self.settings.is_usual() {
             return false;
         }
-        let count = vertex_count(positions);
-        let side = self.side;
-        if !(VertexCount { count }).usual_side_is(side) {
+        let vertices = VertexCount {
+            count: vertex_count(positions),
+        };
+        if !vertices.usual_side_is(self.side) {
             return false;
         }
-        self.lengths_fit(count)
+        self.lengths_fit(self.extent(), vertices)
     }
 }

@@ -5,7 +5,7 @@ use mathlib.Core.List.Memᴰ
 use mathlib.Core.List.{flatten, Memᴰ}
 use lib.ListN.{length-map, get_or-eq_default}
 use lib.Seq.{drop-nil}
-use Rattle.booleans.proofs.Booleans.{and_intro}
+use Rattle.std.proofs.lemmas.Bool.{and_from}
 use Rattle.sequences.specs.Starts.{part}
 use Rattle.sequences.specs.Ascending.{Ascending, sort}
 use Rattle.sequences.proofs.Range.{all_below_intro}
@@ -69,7 +69,7 @@ module _ (m : Mesh) (settings : Settings) where
 
   starts_counted_lem : both_starts_counted (grid_of m settings) m.positions ≡ true
   unfolding both_starts_counted
-  starts_counted_lem = and_intro _ _ (eq-eqb _ _ (cell_starts_length m settings)) (eq-eqb _ _ (triangle_starts_length m settings))
+  starts_counted_lem = and_from _ _ (eq-eqb _ _ (cell_starts_length m settings)) (eq-eqb _ _ (triangle_starts_length m settings))
 
   ids_below_lem : (cell : ℕ) → ids_below (count m) (candidates (grid_of m settings) cell) ≡ true
   unfolding ids_below

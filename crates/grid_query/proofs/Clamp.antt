@@ -1,12 +1,12 @@
 -- Laws of a clamped conversion: what is clamped to 0..n converts to a whole number from 0 to n, and the order is kept. Assumes nothing.
-use Rattle.std.proofs.Common.{◌≡◌, ℕ, suc, ◌+◌, ◌-◌, ◌*◌, ◌/◌, ◌^◌, ◌<◌, ◌≤◌, min, Bool, true, false, cond, T, pos, sym, refl, ap, ◌∙◌, subst, true≢false, zero-le, mul-le-mul_right, div-lt_iff_lt-mul, mul-one, mul_right_comm, le_of_mul-le-mul_right, arith, lt→ltb, ltb-false, le-ltb}
+use Rattle.std.proofs.Common.{◌≡◌, ℕ, suc, ◌+◌, ◌-◌, ◌*◌, ◌/◌, ◌^◌, ◌<◌, ◌≤◌, min, Bool, true, false, cond, T, pos, sym, refl, ap, ◌∙◌, true≢false, zero-le, mul-le-mul_right, div-lt_iff_lt-mul, mul-one, mul_right_comm, le_of_mul-le-mul_right, arith, lt→ltb, ltb-false, le-ltb}
 use mathlib.Core.Bool.{false≢true}
 use lib.Ieee.{Float, nan, inf, fin, up, down, lt, le, to_unsigned, is_nan, of_bits}
 use lib.Ieee.Fits.{down_pos}
 use lib.Ieee.Exact.{HasValue}
 use lib.Ieee.Order.{le_of_values}
+use Rattle.std.proofs.lemmas.Float as float
 use Rattle.binary64.proofs.FloatOrder.{lt_not_le, le_of_not_lt}
-use Rattle.binary64.proofs.LessThan.{lt_le}
 use Rattle.binary64.proofs.WholeNumbers.{whole_value, whole_converted, to_unsigned_monotone}
 use Rattle.binary64.specs.Constants.{positive_zero}
 use Rattle.binary64.specs.Convert.{whole}
@@ -101,7 +101,7 @@ clamped_is_cut g x h = go (lt x positive_zero) (lt top x) refl refl (clamp_at_mo
 
     go : (s t : Bool) → lt x positive_zero ≡ s → lt top x ≡ t → AtMost (g - 1) (cond s positive_zero (cond t top x)) → to_unsigned 64 (cond s positive_zero (cond t top x)) ≡ min (to_unsigned 64 x) (g - 1)
     go true t below above a = omega (arith, at_most_converts 64 0 positive_zero (zero_at_most 0), not_positive_converts 64 x (lt_not_le x positive_zero below))
-    go false true below above a = omega (arith, whole_converted (g - 1) (omega arith), to_unsigned_monotone 64 top x (subst T (sym (lt_le top x above)) tt))
+    go false true below above a = omega (arith, whole_converted (g - 1) (omega arith), to_unsigned_monotone 64 top x (float.le_of_lt top x (float.T_from_true _ above)))
     go false false below above a = omega (arith, at_most_converts 64 (g - 1) x a)
 
 -- so it is a row or a column of cells

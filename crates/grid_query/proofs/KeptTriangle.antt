@@ -13,14 +13,14 @@ use Rattle.vector.specs.declared.Vector3.{Vector3}
 use Rattle.vector.specs.Vector.{normalized}
 use Rattle.vector.specs.declared.Weights.{Weights}
 use Rattle.barycentric.specs.LeastWeight.{least_weight}
-use Rattle.grid_query.specs.declared.Located.{Located}
+use Rattle.grid_query.specs.declared.LocatedTriangle.{LocatedTriangle}
 use Rattle.grid_query.specs.Cell.{cell_of_query, candidates, triples_at, cell_rows}
 use Rattle.grid_query.specs.Nearest.{nearest_of}
 use Rattle.grid_query.specs.Locate.{weighed_by, weighed, least_kept, kept_by, kept_of, triangle_rows, located_at, grid_locate}
 use Rattle.grid_query.specs.KeptTriangle.{SameTriangle, OpenAtZero, KeptWhicheverZero, locate_by, LocatedWhicheverZero, OpenMinimum, least_by, earlier_of_equals}
 
 -- ---- along the list, the leasts too differ in the sign of a zero at most
-abbrev Alike : Option Located → Option Located → Type 0
+abbrev Alike : Option LocatedTriangle → Option LocatedTriangle → Type 0
 Alike kept kept' = SameTriangle (ok_or kept NoTriangle) (ok_or kept' NoTriangle) × SameButZeroSign (least_kept kept) (least_kept kept')
 
 module _ (positions : List Float) (direction : Vector3) where
@@ -31,7 +31,7 @@ module _ (positions : List Float) (direction : Vector3) where
   weighed_alike rule same (a ∷ b ∷ []) = (refl, inl refl)
   weighed_alike rule same (a ∷ b ∷ c ∷ rest) = ((refl, refl), same _)
 
-  kept_alike : (rule : ℕ → Weights → Float) → OpenAtZero rule → (kept kept' : Option Located) (triples : List (List ℕ)) → Alike kept kept'
+  kept_alike : (rule : ℕ → Weights → Float) → OpenAtZero rule → (kept kept' : Option LocatedTriangle) (triples : List (List ℕ)) → Alike kept kept'
       → Alike (kept_of positions direction kept triples) (kept_by rule positions direction kept' triples)
   unfolding kept_by
   kept_alike rule unsettled kept kept' [] h = h
@@ -39,13 +39,13 @@ module _ (positions : List Float) (direction : Vector3) where
       kept_alike (λ i. rule (suc i)) (λ i. unsettled (suc i)) _ _ ts
       (better (weighed positions direction t) (weighed_by (rule 0) positions direction t) (weighed_alike (rule 0) (unsettled 0) t))
     where
-      choose : (b c : Bool) (next next' : Option Located) → b ≡ c → Alike next next' → Alike (cond b next kept) (cond c next' kept')
+      choose : (b c : Bool) (next next' : Option LocatedTriangle) → b ≡ c → Alike next next' → Alike (cond b next kept) (cond c next' kept')
       choose true true next next' e n = n
       choose false false next next' e n = h
       choose true false next next' e n = absurd (true≢false e)
       choose false true next next' e n = absurd (false≢true e)
 
-      better : (next next' : Option Located) → Alike next next' → Alike (cond (lt (least_kept kept) (least_kept next)) next kept) (cond (lt (least_kept kept') (least_kept next')) next' kept')
+      better : (next next' : Option LocatedTriangle) → Alike next next' → Alike (cond (lt (least_kept kept) (least_kept next)) next kept) (cond (lt (least_kept kept') (least_kept next')) next' kept')
       better next next' n =
           choose (lt (least_kept kept) (least_kept next)) (lt (least_kept kept') (least_kept next')) next next'
           (same_below (least_kept kept) (least_kept kept') (least_kept next) h.1 ∙ same_above (least_kept next) (least_kept next') (least_kept kept') n.1) n

@@ -14,4 +14,4 @@ pub mod Cell
 pub mod KeptTriangle
 pub mod CellOrder
 pub mod AtParts
-pub mod Query
+pub mod BehindRows

@@ -7,11 +7,10 @@ use Rattle.vector.specs.declared.Vector3.{Vector3}
 use Rattle.grid.specs.Grid.{Grid}
 use Rattle.grid.proofs.Stored.{StoredFacts, stored_facts, stored_passed}
 use Rattle.grid_query.specs.declared.Nearest.{Nearest}
-use Rattle.grid_query.specs.declared.Located.{Located}
+use Rattle.grid_query.specs.declared.LocatedTriangle.{LocatedTriangle}
 use Rattle.grid_query.specs.Cell.{cell_rows}
 use Rattle.grid_query.specs.Nearest.{grid_nearest}
 use Rattle.grid_query.specs.Locate.{grid_locate}
-use Rattle.grid_query.proofs.VertexFound.{no_answer}
 
 module _ (grid : Grid) (positions : List Float) (direction : Vector3) where
   passed_stored : cell_rows grid positions direction ≡ Ok tt → StoredFacts grid positions
@@ -21,9 +20,9 @@ module _ (grid : Grid) (positions : List Float) (direction : Vector3) where
   -- the grid of an accepted query keeps an allowed pair, and its g is the side of that factor
   pub query_reads_pair :
       ((found : Nearest) → grid_nearest grid positions direction ≡ Ok found → StoredFacts grid positions)
-      × ((located : Located) → grid_locate grid positions direction ≡ Ok located → StoredFacts grid positions)
+      × ((located : LocatedTriangle) → grid_locate grid positions direction ≡ Ok located → StoredFacts grid positions)
   unfolding grid_nearest grid_locate
   query_reads_pair = (
-    λ found h. passed_stored (answer_accepted (cell_rows grid positions direction) Err _ _ (λ reason. no_answer reason found) h).0,
-    λ located h. passed_stored (answer_accepted (cell_rows grid positions direction) Err _ _ (λ reason. no_answer reason located) h).0,
+    λ found h. passed_stored (answer_accepted (cell_rows grid positions direction) Err _ _ (λ reason q. cc) h).0,
+    λ located h. passed_stored (answer_accepted (cell_rows grid positions direction) Err _ _ (λ reason q. cc) h).0,
   )

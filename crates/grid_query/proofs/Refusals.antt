@@ -16,7 +16,7 @@ use Rattle.grid.specs.Settings.{factor_fits, margin_fits}
 use Rattle.grid.specs.Grid.{Grid}
 use Rattle.grid.specs.Stored.{side_fits, both_starts_counted}
 use Rattle.grid_query.specs.declared.Nearest.{Nearest}
-use Rattle.grid_query.specs.declared.Located.{Located}
+use Rattle.grid_query.specs.declared.LocatedTriangle.{LocatedTriangle}
 use Rattle.grid_query.specs.Cell.{cell_of_query, part_within, candidates, triples_at, cell_rows}
 use Rattle.grid_query.specs.Nearest.{nearest_of, nearest_in, grid_nearest}
 use Rattle.grid_query.specs.Locate.{kept_of, triangle_rows, located_at, grid_locate}
@@ -90,7 +90,7 @@ module _ (P : Refusal → Type 0) (plain : (reason : Refusal) → number_of reas
       reasons_row P (ids_below (vertex_count positions) (block_part 3 grid.triangle_starts grid.triples v)) Id (Ok tt) (λ e. at_4) (λ below. reasons_passed P)))
 
   -- row 12
-  kept_reason : (kept : Option Located) → IfErr (ok_or kept NoTriangle) P
+  kept_reason : (kept : Option LocatedTriangle) → IfErr (ok_or kept NoTriangle) P
   kept_reason None = at_12
   kept_reason (Some located) = tt
 
@@ -102,8 +102,8 @@ module _ (P : Refusal → Type 0) (plain : (reason : Refusal) → number_of reas
         → IfErr (grid_locate grid positions direction) P
     unfolding grid_locate located_at
     locate_reason at-cell at_vertex =
-        reasons_answer P (λ (a : Result Located Refusal). IfErr a P) (cell_rows grid positions direction) Err _ (cell_reasons direction at-cell) (λ own p. p)
-        (reasons_answer P (λ (a : Result Located Refusal). IfErr a P) (triangle_rows grid positions vertex) Err _ (triangle_reasons vertex at_vertex) (λ own p. p)
+        reasons_answer P (λ (a : Result LocatedTriangle Refusal). IfErr a P) (cell_rows grid positions direction) Err _ (cell_reasons direction at-cell) (λ own p. p)
+        (reasons_answer P (λ (a : Result LocatedTriangle Refusal). IfErr a P) (triangle_rows grid positions vertex) Err _ (triangle_reasons vertex at_vertex) (λ own p. p)
         (kept_reason (kept_of positions (normalized direction) None (triples_at grid vertex))))
 
 -- ---- the index: with 18 it is that of the start behind the part that was met falling, and with every other number it is 0
@@ -124,7 +124,7 @@ module _ (grid : Grid) (positions : List Float) (direction : Vector3) where
   pub locate_index : (reason : Refusal) → grid_locate grid positions direction ≡ Err reason → LocationIndex grid (cell_of_query grid direction) (nearest_of_query grid positions direction) reason
   locate_index reason h =
       let P = LocationIndex grid (cell_of_query grid direction) (nearest_of_query grid positions direction) in
-      subst (λ (a : Result Located Refusal). IfErr a P) h
+      subst (λ (a : Result LocatedTriangle Refusal). IfErr a P) h
       (locate_reason P (λ own not-17 not-18 no-index. inl (inr (not-18, no-index))) grid positions direction (λ falls. inl (inl (refl, refl, falls))) (λ falls. inr (refl, refl, falls)))
 
   -- ---- "A query never returns 17"
@@ -133,5 +133,5 @@ module _ (grid : Grid) (positions : List Float) (direction : Vector3) where
   query_never_17 reason =
       let P : Refusal → Type 0 = λ (r : Refusal). number_of r ≢ 17 in (
         λ h. subst (λ (a : Result Nearest Refusal). IfErr a P) h (nearest_reason P (λ own not-17 not-18 no-index. not-17) grid positions direction (λ falls z. omega arith)),
-        λ h. subst (λ (a : Result Located Refusal). IfErr a P) h (locate_reason P (λ own not-17 not-18 no-index. not-17) grid positions direction (λ falls z. omega arith) (λ falls z. omega arith)),
+        λ h. subst (λ (a : Result LocatedTriangle Refusal). IfErr a P) h (locate_reason P (λ own not-17 not-18 no-index. not-17) grid positions direction (λ falls z. omega arith) (λ falls z. omega arith)),
       )

@@ -1,5 +1,7 @@
 -- A part of ids taken three at a time: what is left of it gives the triangle kept of all. Assumes nothing.
-use Rattle.std.proofs.Common.{◌≡◌, ℕ, zero, suc, ◌<◌, cond, List, [], ◌∷◌, ◌++◌, length, get_or, sym, refl, ap, subst, arith}
+use Rattle.std.proofs.Common.{◌≡◌, ℕ, zero, suc, ◌+◌, ◌/◌, ◌<◌, ◌≤◌, cond, List, [], ◌∷◌, length, get_or, drop, drop_of_length-le, sym, refl, ap, subst, ◌∙◌, arith}
+use Rattle.std.proofs.lemmas.List.{at_drop_more}
+use Rattle.std.specs.Simd.{first_chunks}
 use lib.Ieee.{Float, lt}
 use Rattle.vector.specs.declared.Vector3.{Vector3}
 use Rattle.vector.specs.declared.Weights.{Weights}
@@ -7,7 +9,7 @@ use Rattle.barycentric.specs.LeastWeight.{least_weight}
 use Rattle.barycentric.specs.Ericson.{projected_barycentric}
 use Rattle.mesh.specs.Mesh.{position_of}
 use Rattle.std.specs.Prelude.{Option, Some}
-use Rattle.grid_query.specs.declared.Located.{Located}
+use Rattle.grid_query.specs.declared.LocatedTriangle.{LocatedTriangle}
 use Rattle.grid_query.specs.Cell.{in_triples}
 use Rattle.vector.specs.Triangle.{triple_of}
 use Rattle.grid_query.specs.Locate.{located, weighed_by, least_kept, kept_by, kept_of}
@@ -16,53 +18,53 @@ use Rattle.grid_query.specs.Locate.{located, weighed_by, least_kept, kept_by, ke
 abbrev pub EachBelow : ℕ → List ℕ → Type 0
 EachBelow n ids = (i : ℕ) → i < length ids → get_or ids i 0 < n
 
--- fewer than three are no triple
-no_triple : (l : List ℕ) → length l < 3 → in_triples l ≡ []
+-- the ids three at a time, as code cuts them
+pub chunks_are : (l : List ℕ) → first_chunks 3 (length l / 3) l ≡ in_triples l
 unfolding in_triples
-no_triple [] h = refl
-no_triple (a ∷ []) h = refl
-no_triple (a ∷ b ∷ []) h = refl
-no_triple (a ∷ b ∷ c ∷ rest) h = absurd (let z : ⊥ = omega arith in z)
+chunks_are [] = refl
+chunks_are (a ∷ []) = refl
+chunks_are (a ∷ b ∷ []) = refl
+chunks_are (a ∷ b ∷ c ∷ rest) =
+    let more : length (a ∷ b ∷ c ∷ rest) / 3 ≡ suc (length rest / 3) = omega arith in
+    ap (λ (k : ℕ). first_chunks 3 k (a ∷ b ∷ c ∷ rest)) more ∙ ap (λ (ts : List (List ℕ)). (a ∷ b ∷ c ∷ []) ∷ ts) (chunks_are rest)
 
-first_triple : (corners rest : List ℕ) → length corners ≡ 3 → in_triples (corners ++ rest) ≡ (get_or corners 0 0 ∷ get_or corners 1 0 ∷ get_or corners 2 0 ∷ []) ∷ in_triples rest
+-- three ids, each below n
+abbrev pub TripleBelow : ℕ → List ℕ → Type 0
+TripleBelow n t = (length t ≡ 3) × (get_or t 0 0 < n) × (get_or t 1 0 < n) × (get_or t 2 0 < n)
+
+each_triple : (n : ℕ) (l : List ℕ) → EachBelow n l → (i : ℕ) → i < length (in_triples l) → TripleBelow n (get_or (in_triples l) i [])
 unfolding in_triples
-first_triple (a ∷ b ∷ c ∷ []) rest three = refl
-first_triple [] rest three = absurd (let z : ⊥ = omega arith in z)
-first_triple (a ∷ []) rest three = absurd (let z : ⊥ = omega arith in z)
-first_triple (a ∷ b ∷ []) rest three = absurd (let z : ⊥ = omega arith in z)
-first_triple (a ∷ b ∷ c ∷ d ∷ more) rest three = absurd (let z : ⊥ = omega arith in z)
+each_triple n [] below i h = absurd (let z : ⊥ = omega arith in z)
+each_triple n (a ∷ []) below i h = absurd (let z : ⊥ = omega arith in z)
+each_triple n (a ∷ b ∷ []) below i h = absurd (let z : ⊥ = omega arith in z)
+each_triple n (a ∷ b ∷ c ∷ rest) below zero h = (refl, below 0 (omega arith), below 1 (omega arith), below 2 (omega arith))
+each_triple n (a ∷ b ∷ c ∷ rest) below (suc i) h = each_triple n rest (λ j lt. below (suc (suc (suc j))) (omega arith)) i (omega arith)
 
--- the ids of the corners taken, and those behind them
-below_taken : (n : ℕ) (corners rest : List ℕ) → length corners ≡ 3 → EachBelow n (corners ++ rest) → EachBelow n corners × EachBelow n rest
-below_taken n (a ∷ b ∷ c ∷ []) rest three below = (corner, λ i lt. below (suc (suc (suc i))) (omega arith))
-  where
-    corner : EachBelow n (a ∷ b ∷ c ∷ [])
-    corner zero h = below 0 (omega arith)
-    corner (suc zero) h = below 1 (omega arith)
-    corner (suc (suc zero)) h = below 2 (omega arith)
-    corner (suc (suc (suc i))) h = absurd (let z : ⊥ = omega arith in z)
-below_taken n [] rest three below = absurd (let z : ⊥ = omega arith in z)
-below_taken n (a ∷ []) rest three below = absurd (let z : ⊥ = omega arith in z)
-below_taken n (a ∷ b ∷ []) rest three below = absurd (let z : ⊥ = omega arith in z)
-below_taken n (a ∷ b ∷ c ∷ d ∷ more) rest three below = absurd (let z : ⊥ = omega arith in z)
+pub triple_at : (n : ℕ) (l : List ℕ) (ts : List (List ℕ)) → ts ≡ first_chunks 3 (length l / 3) l → EachBelow n l → (i : ℕ) → i < length ts → TripleBelow n (get_or ts i [])
+triple_at n l ts e below i h = subst (λ (us : List (List ℕ)). i < length us → TripleBelow n (get_or us i [])) (sym (e ∙ chunks_are l)) (each_triple n l below i) h
 
--- three corners taken off a list
-module _ (list corners rest : List ℕ) (cut : list ≡ corners ++ rest) (three : length corners ≡ 3) where
-  pub corners_below : (n : ℕ) → EachBelow n list → EachBelow n corners
-  corners_below n below = (below_taken n corners rest three (subst (EachBelow n) cut below)).0
+-- one triple more
+module _ (positions : List Float) (direction : Vector3) (kept : Option LocatedTriangle) where
+  abbrev weights_of : List ℕ → Weights
+  weights_of t = projected_barycentric direction (position_of positions (get_or t 0 0)) (position_of positions (get_or t 1 0)) (position_of positions (get_or t 2 0))
 
-  pub rest_below : (n : ℕ) → EachBelow n list → EachBelow n rest
-  rest_below n below = (below_taken n corners rest three (subst (EachBelow n) cut below)).1
+  abbrev kept_with : List ℕ → Weights → Option LocatedTriangle
+  kept_with t weights = cond (lt (least_kept kept) (least_weight weights)) (Some (located (triple_of (get_or t 0 0) (get_or t 1 0) (get_or t 2 0)) weights)) kept
 
-  -- one triple more
-  pub kept_step : (positions : List Float) (direction : Vector3) (kept next : Option Located) (weights : Weights)
-      → weights ≡ projected_barycentric direction (position_of positions (get_or corners 0 0)) (position_of positions (get_or corners 1 0)) (position_of positions (get_or corners 2 0))
-      → next ≡ cond (lt (least_kept kept) (least_weight weights)) (Some (located (triple_of (get_or corners 0 0) (get_or corners 1 0) (get_or corners 2 0)) weights)) kept
-      → kept_of positions direction next (in_triples rest) ≡ kept_of positions direction kept (in_triples list)
+  kept_one : (t : List ℕ) (more : List (List ℕ)) → length t ≡ 3 → kept_of positions direction (kept_with t (weights_of t)) more ≡ kept_of positions direction kept (t ∷ more)
   unfolding kept_by weighed_by
-  kept_step positions direction kept next weights w n = rw (n, w, cut) (sym (ap (kept_of positions direction kept) (first_triple corners rest three)))
+  kept_one (a ∷ b ∷ c ∷ []) more three = refl
+  kept_one [] more three = absurd (let z : ⊥ = omega arith in z)
+  kept_one (a ∷ []) more three = absurd (let z : ⊥ = omega arith in z)
+  kept_one (a ∷ b ∷ []) more three = absurd (let z : ⊥ = omega arith in z)
+  kept_one (a ∷ b ∷ c ∷ d ∷ rest) more three = absurd (let z : ⊥ = omega arith in z)
 
--- none left
-pub kept_end : (list : List ℕ) → length list < 3 → (positions : List Float) (direction : Vector3) (kept : Option Located) → kept_of positions direction kept (in_triples list) ≡ kept
-unfolding kept_by
-kept_end list few positions direction kept = ap (kept_of positions direction kept) (no_triple list few)
+  pub kept_step : (ts : List (List ℕ)) (i : ℕ) (next : Option LocatedTriangle) (weights : Weights) → i < length ts → length (get_or ts i []) ≡ 3
+      → weights ≡ weights_of (get_or ts i []) → next ≡ kept_with (get_or ts i []) weights
+      → kept_of positions direction next (drop (i + 1) ts) ≡ kept_of positions direction kept (drop i ts)
+  kept_step ts i next weights inside three w n = rw (n, w) (kept_one (get_or ts i []) (drop (i + 1) ts) three) ∙ sym (at_drop_more (kept_of positions direction kept) ts i [] inside)
+
+  -- none left
+  pub kept_end : (ts : List (List ℕ)) (i : ℕ) → length ts ≤ i → kept_of positions direction kept (drop i ts) ≡ kept
+  unfolding kept_by
+  kept_end ts i all = rw (drop_of_length-le ts {i = i} all) refl

@@ -1,5 +1,5 @@
 -- What a nearest query's answer tells: `vertex_found`. The vertex is one of the candidates of the direction's cell and below the vertex count, and the count is theirs. Assumes nothing.
-use Rattle.std.proofs.Common.{◌≡◌, ℕ, suc, ◌<◌, true, ltb, List, length, refl, sym, ap, subst, ◌∙◌, arith, ltb-true}
+use Rattle.std.proofs.Common.{◌≡◌, ℕ, suc, ◌<◌, true, ltb, List, length, refl, sym, ap, subst, ◌∙◌, ltb-true}
 use mathlib.Core.List.{Memᴰ}
 use lib.Ieee.{Float}
 use Rattle.refusal.specs.declared.Refusal.{Refusal}
@@ -18,10 +18,6 @@ use Rattle.grid_query.specs.Nearest.{squared_distance, nearest_of, nearest_in, n
 use Rattle.mesh.proofs.IdsBelow.{ids_below_member}
 use Rattle.grid_query.proofs.GridRows.{cell_rows_then}
 use Rattle.grid_query.proofs.NearestCandidate.{nearest_member}
-
--- a refusal is no answer
-pub no_answer : {A : Type 0} (reason : Refusal) (x : A) → ◌≡◌ {A = Result A Refusal} (Err reason) (Ok x) → ⊥
-no_answer reason x h = let z : ◌≡◌ {A = ℕ} 0 1 = cc in omega arith
 
 -- a vertex that was found among the candidates of a cell
 pub record FoundFacts (grid : Grid) (positions : List Float) (direction : Vector3) (cell : ℕ) (found : Nearest) : Type 0 where
@@ -44,7 +40,7 @@ module _ (grid : Grid) (positions : List Float) (direction : Vector3) (cell : �
   pub cell_found : (found : Nearest) → nearest_of_cell grid positions direction cell ≡ Ok found → FoundFacts grid positions direction cell found
   unfolding nearest_of_cell nearest_in
   cell_found found h =
-      let both = answer_accepted (candidate_rows grid positions cell) Err _ _ (λ reason. no_answer reason found) h in
+      let both = answer_accepted (candidate_rows grid positions cell) Err _ _ (λ reason q. cc) h in
       let facts = candidate_facts both.0 in
       let same : nearest_in positions direction (candidates grid cell) ≡ found = (let q = both.1 in cc) in
       let member : Memᴰ found.id (candidates grid cell) = subst (λ (n : Nearest). Memᴰ n.id (candidates grid cell)) same (nearest_member positions direction (candidates grid cell) facts.0) in
@@ -61,7 +57,7 @@ module _ (grid : Grid) (positions : List Float) (direction : Vector3) (cell : �
   pub cell_refused : (reason : Refusal) → nearest_of_cell grid positions direction cell ≡ Err reason → candidate_rows grid positions cell ≡ Err reason
   unfolding nearest_of_cell
   cell_refused reason h =
-      answer_refused (λ (a : Result Nearest Refusal). a ≡ Err reason) (candidate_rows grid positions cell) Err _ reason (λ q. no_answer reason _ (sym q)) (λ other q. cc) h
+      answer_refused (λ (a : Result Nearest Refusal). a ≡ Err reason) (candidate_rows grid positions cell) Err _ reason (λ q. cc) (λ other q. cc) h
 
 -- every vertex that a nearest query answers
 pub vertex_found : (grid : Grid) (positions : List Float) (direction : Vector3) (found : Nearest) → grid_nearest grid positions direction ≡ Ok found
@@ -70,6 +66,6 @@ unfolding grid_nearest nearest_of_cell
 vertex_found grid positions direction found h =
     let cell = cell_of_query grid direction in
     let ids = candidates grid cell in
-    let both = answer_accepted (cell_rows grid positions direction) Err _ _ (λ reason. no_answer reason found) h in
+    let both = answer_accepted (cell_rows grid positions direction) Err _ _ (λ reason q. cc) h in
     let rows = then_passed (grid_rows grid positions direction (Ok tt)) (candidate_rows grid positions cell) (sym (cell_rows_then grid positions direction) ∙ both.0) in
     cell_found grid positions (normalized direction) cell found (ap (λ (v : Verdict). answer v Err (Ok (nearest_in positions (normalized direction) ids))) rows.1 ∙ both.1)

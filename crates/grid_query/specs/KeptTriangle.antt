@@ -10,13 +10,13 @@ use Rattle.vector.specs.Vector.{normalized}
 use Rattle.vector.specs.declared.Weights.{Weights}
 use Rattle.barycentric.specs.LeastWeight.{least_weight}
 use Rattle.grid.specs.Grid.{Grid}
-use Rattle.grid_query.specs.declared.Located.{Located}
+use Rattle.grid_query.specs.declared.LocatedTriangle.{LocatedTriangle}
 use Rattle.grid_query.specs.Cell.{cell_of_query, candidates, triples_at, cell_rows}
 use Rattle.grid_query.specs.Nearest.{nearest_of}
 use Rattle.grid_query.specs.Locate.{kept_by, kept_of, triangle_rows, grid_locate}
 
 -- The same refusal, or the same triangle with the same weights.
-abbrev pub SameTriangle : Result Located Refusal → Result Located Refusal → Type 0
+abbrev pub SameTriangle : Result LocatedTriangle Refusal → Result LocatedTriangle Refusal → Type 0
 SameTriangle (Err reason) (Err reason') = reason ≡ reason'
 SameTriangle (Err reason) (Ok located') = ⊥
 SameTriangle (Ok located) (Err reason') = ⊥
@@ -32,7 +32,7 @@ KeptWhicheverZero = (rule : ℕ → Weights → Float) → OpenAtZero rule → (
     → SameTriangle (ok_or (kept_of positions direction None triples) NoTriangle) (ok_or (kept_by rule positions direction None triples) NoTriangle)
 
 -- A location with its leasts by a rule; `grid_locate` is that by the least weight.
-unfoldable pub locate_by : (ℕ → Weights → Float) → Grid → List Float → Vector3 → Result Located Refusal
+unfoldable pub locate_by : (ℕ → Weights → Float) → Grid → List Float → Vector3 → Result LocatedTriangle Refusal
 locate_by rule grid positions direction =
     let nearest = nearest_of positions (normalized direction) (candidates grid (cell_of_query grid direction)) in
     answer (cell_rows grid positions direction) Err

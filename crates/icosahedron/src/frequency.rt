@@ -20,7 +20,7 @@ impl Frequency {
     pub fn new(n: usize) -> Result<Frequency, Refusal>
         ensures { number_of result ≡ frequency_of n }
     {
-        if (1 <= n) & (n <= 80) {
+        if (1..=80).contains(&n) {
             Ok(Frequency { n })
         } else {
             Err(Refusal::Frequency)

@@ -1,5 +1,5 @@
 // The icosahedron that the lattice subdivides: its twelve points, its twenty master faces, and the frequencies of its lattices.
-// Assumes of an index of a point that it is below 12, and of one of a face that it is below 20, as callers know: no function here is an entry point.
+// An index of a point has to be below 12, and `Face::new` asks for a number below 20: no function here is an entry point.
 #![tactic(auto)]
 
 ghost use Rattle.std.specs.Prelude.{◌≡◌, ◌+◌, ◌<◌, ◌≤◌};
@@ -160,6 +160,7 @@ impl Face {
     }
 }
 
+// This and the two functions behind it are of every number up to 80, and so of 0 too, which is no `Frequency`: its methods call them.
 // The place of the lattice point (a, b, n - a - b) among the slots of its face.
 #[inline(always)]
 #[tactic(auto, using(crate::proofs::Slots::predecessor_product), unfolding(crate::specs::Slots::slot_of))]

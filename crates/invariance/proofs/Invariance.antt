@@ -7,7 +7,7 @@ use mathlib.Core.Bool.{Bool, true, false}
 use mathlib.Core.List.{List}
 use lib.ListN.{length, get_or, drop}
 use lib.Ieee.{Float, nan}
-use Rattle.booleans.proofs.Booleans.{true_or_false}
+use Rattle.std.proofs.lemmas.Bool.{cases_Bool}
 use Rattle.sequences.specs.Permutation.{at, IsPermutation}
 use Rattle.std.specs.Prelude.{Ok}
 use Rattle.vector.specs.declared.Vector3.{Vector3}
@@ -43,7 +43,7 @@ same_coordinates l r i j e (suc (suc (suc k))) lt = absurd (let z : ⊥ = omega 
 
 values_tail : (m : Mesh) (values : List Float) (facts : AdjacencyFacts m) (each : ℕ) (p : List ℕ) (state : State) → IsPermutation (count m) p → DataRenumberedBy m values facts each p state
     → drop (length values / (count m * each) * (count m * each)) state.values ≡ drop (length values / (count m * each) * (count m * each)) values
-values_tail m values facts each p state h d = go (true_or_false (entries_per_vertex_fit (count m) each))
+values_tail m values facts each p state h d = go (cases_Bool (entries_per_vertex_fit (count m) each))
   where
     places : ℕ
     places = length values / (count m * each) * (count m * each)

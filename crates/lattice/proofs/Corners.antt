@@ -1,7 +1,7 @@
 -- Laws of the faces' corners: below twelve, three different ones a face. Assumes nothing.
 use Rattle.std.proofs.Common.{◌≡◌, ℕ, zero, suc, ◌+◌, ◌<◌, Bool, true, false, cond, not, ◌&&◌, ◌||◌, eqb, ltb, ◌≢◌, ◌⊎◌, sym, refl, ◌∙◌, inl, inr, arith, ltb-false, ltb-true, eq-eqb, ne_eqb, eqb-true}
 use borrow.Author.Tests.{eqb-false, not-true}
-use Rattle.booleans.proofs.Booleans.{and_split, true_or_false, or_split, or_left, or_right, true_false}
+use Rattle.std.proofs.lemmas.Bool.{and_parts, cases_Bool, or_cases, or_left, or_right, both_ways}
 use Rattle.sequences.specs.Range.{all_below}
 use Rattle.sequences.proofs.Range.{all_below_at}
 use Rattle.icosahedron.specs.Icosahedron.{face_corner}
@@ -31,11 +31,11 @@ pub corners_distinct : (f : ℕ) → f < 20 → DistinctCorners f
 unfolding well_formed
 corners_distinct f lt =
     let h : well_formed f ≡ true = all_below_at well_formed 20 f all_well_formed lt in
-    let s = and_split _ _ h in
-    let b = and_split _ _ s.0 in
-    let c = and_split _ _ b.1 in
-    let d = and_split _ _ s.1 in
-    let e = and_split _ _ d.1 in
+    let s = and_parts _ _ h in
+    let b = and_parts _ _ s.0 in
+    let c = and_parts _ _ b.1 in
+    let d = and_parts _ _ s.1 in
+    let e = and_parts _ _ d.1 in
     record {
       below_0 = ltb-true _ _ b.0;
       below_1 = ltb-true _ _ c.0;
@@ -85,7 +85,7 @@ pub data CornerOf (f k : ℕ) : Type 0 where
 
 pub has_corner_lem : (f k : ℕ) → has_corner f k ≡ true → CornerOf f k
 unfolding has_corner
-has_corner_lem f k h = go (or_split _ _ h)
+has_corner_lem f k h = go (or_cases _ _ h)
   where
     rest : (eqb (face_corner f 1) k ≡ true) ⊎ (eqb (face_corner f 2) k ≡ true) → CornerOf f k
     rest (inl e) = at_1 (eqb-true _ _ e)
@@ -93,7 +93,7 @@ has_corner_lem f k h = go (or_split _ _ h)
 
     go : (eqb (face_corner f 0) k ≡ true) ⊎ (eqb (face_corner f 1) k || eqb (face_corner f 2) k ≡ true) → CornerOf f k
     go (inl e) = at_0 (eqb-true _ _ e)
-    go (inr e) = rest (or_split _ _ e)
+    go (inr e) = rest (or_cases _ _ e)
 
 pub corner_has : (f k : ℕ) → CornerOf f k → has_corner f k ≡ true
 unfolding has_corner
@@ -132,7 +132,7 @@ weight_on_face f k weight lt h = go h (corners_distinct f lt)
 -- ---- a corner that counts where its weight is not zero
 pub counted_cases : (f k weight : ℕ) → has_counted f (ltb 0 weight) k ≡ true → (weight ≡ 0) ⊎ CornerOf f k
 unfolding has_counted
-counted_cases f k weight h = go (true_or_false (ltb 0 weight)) h
+counted_cases f k weight h = go (cases_Bool (ltb 0 weight)) h
   where
     go : (ltb 0 weight ≡ true) ⊎ (ltb 0 weight ≡ false) → not (ltb 0 weight) || has_corner f k ≡ true → (weight ≡ 0) ⊎ CornerOf f k
     go (inl t) g = inr (has_corner_lem f k (rw t at g))
@@ -141,15 +141,15 @@ counted_cases f k weight h = go (true_or_false (ltb 0 weight)) h
 -- and the other way round
 pub corner_counted : (f k weight : ℕ) → (0 < weight → CornerOf f k) → has_counted f (ltb 0 weight) k ≡ true
 unfolding has_counted
-corner_counted f k weight h = go (true_or_false (ltb 0 weight))
+corner_counted f k weight h = go (cases_Bool (ltb 0 weight))
   where
     go : (ltb 0 weight ≡ true) ⊎ (ltb 0 weight ≡ false) → not (ltb 0 weight) || has_corner f k ≡ true
     go (inl t) = or_right (not (ltb 0 weight)) (has_corner f k) (corner_has f k (h (ltb-true 0 weight t)))
     go (inr e) = rw e refl
 
 pub corner_or_not : (f k : ℕ) → CornerOf f k ⊎ (CornerOf f k → ⊥)
-corner_or_not f k = go (true_or_false (has_corner f k))
+corner_or_not f k = go (cases_Bool (has_corner f k))
   where
     go : (has_corner f k ≡ true) ⊎ (has_corner f k ≡ false) → CornerOf f k ⊎ (CornerOf f k → ⊥)
     go (inl t) = inl (has_corner_lem f k t)
-    go (inr e) = inr (λ c. true_false (has_corner f k) (corner_has f k c) e)
+    go (inr e) = inr (λ c. both_ways (has_corner f k) e (corner_has f k c))

@@ -1,7 +1,7 @@
 -- The corners of the twenty faces, by evaluation: no component is above 1 in magnitude (`corners_within`), and along one axis all three are at least 1/4 in magnitude, with one sign (`face_on_one_side`). Assumes nothing.
 use Rattle.std.proofs.Common.{◌≡◌, ℕ, zero, suc, ◌<◌, Bool, true, false, ◌&&◌, refl}
 use lib.Ieee.{le, of_bits}
-use Rattle.booleans.proofs.Booleans.{and_split}
+use Rattle.std.proofs.lemmas.Bool.{and_parts}
 use Rattle.sequences.specs.Range.{all_below}
 use Rattle.sequences.proofs.Range.{all_below_at}
 use Rattle.icosahedron.specs.Icosahedron.{icosahedron_point, face_corner}
@@ -26,10 +26,10 @@ unfolding corners_between within_one
 corners_within face axis lt = go axis
   where
     x_and_rest : (within_one 0 face ≡ true) × (within_one 1 face && within_one 2 face ≡ true)
-    x_and_rest = and_split _ _ (all_below_at (λ face. within_one 0 face && (within_one 1 face && within_one 2 face)) 20 face all_within lt)
+    x_and_rest = and_parts _ _ (all_below_at (λ face. within_one 0 face && (within_one 1 face && within_one 2 face)) 20 face all_within lt)
 
     y_and_z : (within_one 1 face ≡ true) × (within_one 2 face ≡ true)
-    y_and_z = and_split _ _ x_and_rest.1
+    y_and_z = and_parts _ _ x_and_rest.1
 
     go : (axis : ℕ) → within_one axis face ≡ true
     go zero = x_and_rest.0

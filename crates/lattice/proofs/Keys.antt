@@ -1,9 +1,8 @@
 -- Laws of keys: two points are one vertex exactly where they have the same weight on each corner; the appearances of a vertex on other faces. Assumes nothing.
 use Rattle.std.proofs.Common.{◌≡◌, ℕ, ◌+◌, ◌-◌, ◌<◌, ◌≤◌, true, false, eqb, ltb, ◌⊎◌, List, [], ◌∷◌, get_or, sym, refl, ap, ◌∙◌, inl, inr, arith, eq-eqb, eqb-true}
-use Rattle.booleans.proofs.Booleans.{and_split, and_intro, true_false}
+use Rattle.std.proofs.lemmas.Bool.{and_parts, and_from, both_ways, cases_lt}
 use Rattle.sequences.specs.Equality.{same_numbers}
 use Rattle.sequences.specs.Tabulate.{tabulate}
-use Rattle.sequences.proofs.Range.{below_or_from}
 use Rattle.sequences.proofs.Tabulate.{tabulate_at, tabulate_extensional}
 use Rattle.icosahedron.specs.Icosahedron.{face_corner}
 use Rattle.lattice.specs.Lattice.{LatticePoint, point_at, weight_on, weight_at, key_of, same_vertex}
@@ -14,15 +13,15 @@ use Rattle.lattice.proofs.Corners.{DistinctCorners, corners_distinct, CornerOf, 
 pub same_numbers_equal : (l r : List ℕ) → same_numbers l r ≡ true → l ≡ r
 unfolding same_numbers
 same_numbers_equal [] [] h = refl
-same_numbers_equal [] (y ∷ ys) h = absurd (true_false false h refl)
-same_numbers_equal (x ∷ xs) [] h = absurd (true_false false h refl)
+same_numbers_equal [] (y ∷ ys) h = absurd (both_ways false refl h)
+same_numbers_equal (x ∷ xs) [] h = absurd (both_ways false refl h)
 same_numbers_equal (x ∷ xs) (y ∷ ys) h =
-    let s = and_split (eqb x y) (same_numbers xs ys) h in rw (eqb-true x y s.0, same_numbers_equal xs ys s.1) refl
+    let s = and_parts (eqb x y) (same_numbers xs ys) h in rw (eqb-true x y s.0, same_numbers_equal xs ys s.1) refl
 
 equal_same_numbers : (l : List ℕ) → same_numbers l l ≡ true
 unfolding same_numbers
 equal_same_numbers [] = refl
-equal_same_numbers (x ∷ xs) = and_intro (eqb x x) (same_numbers xs xs) (eq-eqb x x refl) (equal_same_numbers xs)
+equal_same_numbers (x ∷ xs) = and_from (eqb x x) (same_numbers xs xs) (eq-eqb x x refl) (equal_same_numbers xs)
 
 key_weights : (n : ℕ) (p : LatticePoint) → key_of n p ≡ tabulate 12 (weight_at n p)
 unfolding key_of
@@ -97,7 +96,7 @@ module _ (n : ℕ) (p : LatticePoint) (on : OnLattice n p) where
 module _ (n : ℕ) (p q : LatticePoint) where
   pub same_vertex_weights : OnLattice n p → OnLattice n q → same_vertex n p q ≡ true → SameWeights n p q
   unfolding same_vertex
-  same_vertex_weights onp onq h k = go (below_or_from k 12)
+  same_vertex_weights onp onq h k = go (cases_lt k 12)
     where
       go : (k < 12) ⊎ (12 ≤ k) → weight_at n p k ≡ weight_at n q k
       go (inl lt) =
@@ -157,8 +156,8 @@ pub record LiesOn (n f : ℕ) (p : LatticePoint) : Type 0 where
 pub lies_on_lem : (n f : ℕ) (p : LatticePoint) → lies_on n f p ≡ true → LiesOn n f p
 unfolding lies_on has_corners
 lies_on_lem n f p h =
-    let s = and_split (has_counted f (ltb 0 p.a) (face_corner p.face 0)) _ h in
-    let t = and_split (has_counted f (ltb 0 p.b) (face_corner p.face 1)) (has_counted f (ltb 0 (n - p.a - p.b)) (face_corner p.face 2)) s.1 in
+    let s = and_parts (has_counted f (ltb 0 p.a) (face_corner p.face 0)) _ h in
+    let t = and_parts (has_counted f (ltb 0 p.b) (face_corner p.face 1)) (has_counted f (ltb 0 (n - p.a - p.b)) (face_corner p.face 2)) s.1 in
     record { first = counted_cases f _ _ s.0; second = counted_cases f _ _ t.0; third = counted_cases f _ _ t.1 }
 
 -- a weight on a corner of the face, or no weight
@@ -205,8 +204,8 @@ module _ (n f : ℕ) (p : LatticePoint) (on : OnLattice n p) (below : f < 20) (h
 pub same_weights_lies_on : (n : ℕ) (p q : LatticePoint) → OnLattice n p → OnLattice n q → SameWeights n p q → lies_on n q.face p ≡ true
 unfolding lies_on has_corners
 same_weights_lies_on n p q onp onq same =
-    and_intro _ _ (corner_counted q.face _ _ (λ pos. has_it (face_corner p.face 0) (rw (weight_first n p onp) pos)))
-    (and_intro _ _ (corner_counted q.face _ _ (λ pos. has_it (face_corner p.face 1) (rw (weight_second n p onp) pos)))
+    and_from _ _ (corner_counted q.face _ _ (λ pos. has_it (face_corner p.face 0) (rw (weight_first n p onp) pos)))
+    (and_from _ _ (corner_counted q.face _ _ (λ pos. has_it (face_corner p.face 1) (rw (weight_second n p onp) pos)))
     (corner_counted q.face _ _ (λ pos. has_it (face_corner p.face 2) (rw (weight_third n p onp) pos))))
   where
     has_it : (k : ℕ) → 0 < weight_at n p k → CornerOf q.face k

@@ -4,7 +4,7 @@ use mathlib.Core.List.Memᴰ
 use mathlib.Core.List.{Memᴰ}
 use lib.ListN.{length-map}
 use borrow.Author.Tests.{eqb-false, not-true}
-use Rattle.booleans.proofs.Booleans.{true_or_false, and_split, and_intro, or_left, or_right, true_false}
+use Rattle.std.proofs.lemmas.Bool.{cases_Bool, and_parts, and_from, or_left, or_right, both_ways}
 use Rattle.sequences.specs.Range.{all_below, some_below, sum_below}
 use Rattle.sequences.specs.Tabulate.{tabulate}
 use Rattle.sequences.specs.Starts.{start_of}
@@ -57,8 +57,8 @@ module _ (n : ℕ) (p : LatticePoint) (on : OnLattice n p) where
   unfolding moves is_move from_corner
   move_of move m =
       let r = filter_range_member _ 36 move m in
-      let s = and_split (support_at (ltb 0 p.a) (ltb 0 p.b) (ltb 0 (n - p.a - p.b)) (move / 12)) _ r.1 in
-      let t = and_split (not (eqb (face_corner p.face (move / 12)) (move % 12))) _ s.1 in
+      let s = and_parts (support_at (ltb 0 p.a) (ltb 0 p.b) (ltb 0 (n - p.a - p.b)) (move / 12)) _ r.1 in
+      let t = and_parts (not (eqb (face_corner p.face (move / 12)) (move % 12))) _ s.1 in
       record {
         below = r.0;
         has_weight = ltb-true 0 _ (sym (support_weight n p on (move / 12) (omega (arith, r.0))) ∙ s.0);
@@ -97,7 +97,7 @@ module _ (n : ℕ) (p : LatticePoint) (on : OnLattice n p) where
           bounded f c (at_2 e) = omega (arith, c.below_2)
 
           corner_below : (f : ℕ) × (f < 20) × (has_corner f to && has_corners f p.face (ltb 0 p.a) (ltb 0 p.b) (ltb 0 (n - p.a - p.b)) ≡ true) → to < 12
-          corner_below r = bounded r.0 (corners_distinct r.0 r.1) (has_corner_lem r.0 to (and_split _ _ r.2).0)
+          corner_below r = bounded r.0 (corners_distinct r.0 r.1) (has_corner_lem r.0 to (and_parts _ _ r.2).0)
 
       numbered : (s : ℕ) → s < 3 → face_corner p.face s ≡ from → (move : ℕ) × Memᴰ move moves × (from_corner move ≡ from) × (move % 12 ≡ to)
       numbered s lt e =
@@ -107,8 +107,8 @@ module _ (n : ℕ) (p : LatticePoint) (on : OnLattice n p) where
           let from_is : face_corner p.face ((s * 12 + to) / 12) ≡ from = ap (face_corner p.face) place ∙ e in (
             s * 12 + to,
             member_filter_range _ 36 (s * 12 + to) (omega (arith, to_below))
-                (and_intro _ _ (ap (support_at (ltb 0 p.a) (ltb 0 p.b) (ltb 0 (n - p.a - p.b))) place ∙ support_weight n p on s lt ∙ lt-ltb 0 (weight_at n p (face_corner p.face s)) (rw e m.has_weight))
-                (and_intro _ _ (ap not (ne_eqb _ _ (λ z. m.differ (sym from_is ∙ z ∙ rest)))) (rw rest m.reached))),
+                (and_from _ _ (ap (support_at (ltb 0 p.a) (ltb 0 p.b) (ltb 0 (n - p.a - p.b))) place ∙ support_weight n p on s lt ∙ lt-ltb 0 (weight_at n p (face_corner p.face s)) (rw e m.has_weight))
+                (and_from _ _ (ap not (ne_eqb _ _ (λ z. m.differ (sym from_is ∙ z ∙ rest)))) (rw rest m.reached))),
             from_is,
             rest,
           )
@@ -182,13 +182,13 @@ corners_expected = refl
 
 all_expected_lem : (first second third : Bool) → first || (second || third) ≡ true → all_expected first second third ≡ true
 all_expected_lem true true true some = inside_expected
-all_expected_lem true true false some = (and_split (all_expected true true false) _ edges_expected).0
-all_expected_lem true false true some = (and_split (all_expected true false true) _ (and_split (all_expected true true false) _ edges_expected).1).0
-all_expected_lem false true true some = (and_split (all_expected true false true) _ (and_split (all_expected true true false) _ edges_expected).1).1
-all_expected_lem true false false some = (and_split (all_expected true false false) _ corners_expected).0
-all_expected_lem false true false some = (and_split (all_expected false true false) _ (and_split (all_expected true false false) _ corners_expected).1).0
-all_expected_lem false false true some = (and_split (all_expected false true false) _ (and_split (all_expected true false false) _ corners_expected).1).1
-all_expected_lem false false false some = absurd (true_false false some refl)
+all_expected_lem true true false some = (and_parts (all_expected true true false) _ edges_expected).0
+all_expected_lem true false true some = (and_parts (all_expected true false true) _ (and_parts (all_expected true true false) _ edges_expected).1).0
+all_expected_lem false true true some = (and_parts (all_expected true false true) _ (and_parts (all_expected true true false) _ edges_expected).1).1
+all_expected_lem true false false some = (and_parts (all_expected true false false) _ corners_expected).0
+all_expected_lem false true false some = (and_parts (all_expected false true false) _ (and_parts (all_expected true false false) _ corners_expected).1).0
+all_expected_lem false false true some = (and_parts (all_expected false true false) _ (and_parts (all_expected true false false) _ corners_expected).1).1
+all_expected_lem false false false some = absurd (both_ways false refl some)
 
 move_count_lem : (face : ℕ) (first second third : Bool) → face < 20 → first || (second || third) ≡ true → move_count face first second third ≡ expected_count first second third
 unfolding all_expected has_expected
@@ -196,7 +196,7 @@ move_count_lem face first second third lt some = eqb-true _ _ (all_below_at (has
 
 -- a point has a weight that is not zero
 some_weight : (n : ℕ) (p : LatticePoint) → 1 ≤ n → ltb 0 p.a || (ltb 0 p.b || ltb 0 (n - p.a - p.b)) ≡ true
-some_weight n p le = go (true_or_false (ltb 0 p.a)) (true_or_false (ltb 0 p.b))
+some_weight n p le = go (cases_Bool (ltb 0 p.a)) (cases_Bool (ltb 0 p.b))
   where
     go : (ltb 0 p.a ≡ true) ⊎ (ltb 0 p.a ≡ false) → (ltb 0 p.b ≡ true) ⊎ (ltb 0 p.b ≡ false) → ltb 0 p.a || (ltb 0 p.b || ltb 0 (n - p.a - p.b)) ≡ true
     go (inl t) y = or_left (ltb 0 p.a) _ t

@@ -1,9 +1,9 @@
 -- Laws of steps as moves of one unit of weight: a vertex has a neighbour for each corner with weight and each other corner that a unit can go to. Assumes nothing.
 use Rattle.std.proofs.Common.{◌≡◌, ℕ, zero, suc, ◌+◌, ◌-◌, ◌/◌, ◌%◌, ◌<◌, Bool, true, false, cond, not, ◌&&◌, eqb, ◌≢◌, ◌⊎◌, sym, refl, ap, ◌∙◌, subst, inl, inr, arith}
-use Rattle.booleans.proofs.Booleans.{and_split, and_intro}
+use Rattle.std.proofs.lemmas.Bool.{and_parts, and_from, cases_eq}
 use Rattle.sequences.specs.Range.{some_below}
 use Rattle.sequences.specs.Search.{first_below}
-use Rattle.sequences.proofs.Range.{some_below_intro, equal_or_not}
+use Rattle.sequences.proofs.Range.{some_below_intro}
 use Rattle.sequences.proofs.Search.{first_found}
 use Rattle.icosahedron.specs.Icosahedron.{face_corner}
 use Rattle.lattice.specs.Lattice.{LatticePoint, point_at, weight_at, weight_on}
@@ -162,7 +162,7 @@ adjacent_moved n p q on t =
         differ = m.differ;
         reached =
             some_below_intro _ 20 t.face t.from_on_lattice.face_below
-            (and_intro _ _ (corner_has t.face m.to m.is_corner_lem) (same_weights_lies_on n p (point_at t.face t.a t.b) on t.from_on_lattice (λ k. sym (t.from_same k))));
+            (and_from _ _ (corner_has t.face m.to m.is_corner_lem) (same_weights_lies_on n p (point_at t.face t.a t.b) on t.from_on_lattice (λ k. sym (t.from_same k))));
         weights = λ k. let e = m.weights k in let f = t.from_same k in let g = t.to_same k in omega arith;
       },
     )
@@ -231,10 +231,10 @@ module _ (n : ℕ) (p : LatticePoint) (from to : ℕ) (on : OnLattice n p) (has_
   face_found = first_found (λ face. has_corner face to && lies_on n face p) 20 reached
 
   face_lies : LiesOn n face_of_move p
-  face_lies = lies_on_lem n face_of_move p (and_split (has_corner face_of_move to) (lies_on n face_of_move p) face_found.1).1
+  face_lies = lies_on_lem n face_of_move p (and_parts (has_corner face_of_move to) (lies_on n face_of_move p) face_found.1).1
 
   to_corner : CornerOf face_of_move to
-  to_corner = has_corner_lem face_of_move to (and_split (has_corner face_of_move to) (lies_on n face_of_move p) face_found.1).0
+  to_corner = has_corner_lem face_of_move to (and_parts (has_corner face_of_move to) (lies_on n face_of_move p) face_found.1).0
 
   from_corner_lem : CornerOf face_of_move from
   from_corner_lem = go (corner_or_not face_of_move from)
@@ -245,7 +245,7 @@ module _ (n : ℕ) (p : LatticePoint) (from to : ℕ) (on : OnLattice n p) (has_
 
   moved_weight_lem : (k : ℕ) → moved_weight (weight_at n p) from to k + weight_on from 1 k ≡ weight_at n p k + weight_on to 1 k
   unfolding moved_weight
-  moved_weight_lem k = go (equal_or_not from k)
+  moved_weight_lem k = go (cases_eq from k)
     where
       go : (from ≡ k) ⊎ (from ≢ k) → weight_at n p k + weight_on to 1 k - weight_on from 1 k + weight_on from 1 k ≡ weight_at n p k + weight_on to 1 k
       go (inl e) = let u = weight_on_own from 1 k e in let w : 0 < weight_at n p k = rw e at has_weight in omega arith
@@ -302,7 +302,7 @@ module _ (n : ℕ) (p : LatticePoint) (from to : ℕ) (on : OnLattice n p) (has_
 
 -- ---- a move is known by where it leads
 pub move_unique : (n : ℕ) (p q q₁ : LatticePoint) (from to from₁ to₁ : ℕ) → Moved n p q from to → Moved n p q₁ from₁ to₁ → SameWeights n q q₁ → (from ≡ from₁) × (to ≡ to₁)
-move_unique n p q q₁ from to from₁ to₁ m m₁ same = (sym (from_same (equal_or_not from₁ from)), sym (to_same (equal_or_not to₁ to)))
+move_unique n p q q₁ from to from₁ to₁ m m₁ same = (sym (from_same (cases_eq from₁ from)), sym (to_same (cases_eq to₁ to)))
   where
     from_same : (from₁ ≡ from) ⊎ (from₁ ≢ from) → from₁ ≡ from
     from_same (inl e) = e

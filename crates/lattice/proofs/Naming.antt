@@ -1,10 +1,10 @@
 -- Laws of namings, of the points in their order and of the six steps, as a program looks them up. Assumes nothing.
 use Rattle.std.proofs.Common.{◌≡◌, ℕ, zero, suc, ◌+◌, ◌-◌, ◌*◌, ◌/◌, ◌%◌, ◌<◌, ◌≤◌, Bool, true, false, cond, eqb, ltb, ◌≢◌, ◌⊎◌, List, length, get_or, take, sym, refl, ap, ◌∙◌, subst, inl, inr, add-mul, add-one, arith, get_or-take, le-ltb, lt-ltb, eq-eqb, ne_eqb}
-use Rattle.booleans.proofs.Booleans.{true_or_false}
+use Rattle.std.proofs.lemmas.Bool.{cases_Bool, cases_lt, cases_eq}
 use Rattle.sequences.specs.Starts.{start_of}
 use Rattle.sequences.proofs.Tabulate.{length_tabulate}
 use Rattle.sequences.proofs.Starts.{start_suc, start_zero, length_concatenate}
-use Rattle.sequences.proofs.Range.{last_or_below, below_or_from, equal_or_not}
+use Rattle.sequences.proofs.Range.{last_or_below}
 use Rattle.icosahedron.specs.Icosahedron.{face_corner}
 use Rattle.icosahedron.specs.Slots.{slot_of, slots_per_face}
 use Rattle.icosahedron.proofs.Slots.{slots_per_face_le}
@@ -110,7 +110,7 @@ edge_face n f (suc (suc s)) w = refl
 
 corner_names : (n f s : ℕ) → 1 ≤ n → f < 20 → s < 3 → Names n (corner_naming n f s) (corner_at n f s)
 unfolding corner_naming
-corner_names n f s le fb sb = go (equal_or_not (first_corner f s / 3) f)
+corner_names n f s le fb sb = go (cases_eq (first_corner f s / 3) f)
   where
     r : FirstCornerFace f s
     r = corner_first_face f s fb sb
@@ -125,7 +125,7 @@ corner_names n f s le fb sb = go (equal_or_not (first_corner f s / 3) f)
 
 edge_names : (n f s w : ℕ) → f < 20 → s < 3 → 0 < w → w < n → Names n (edge_naming n f s w) (edge_at n f s w)
 unfolding edge_naming
-edge_names n f s w fb sb pos lt = go (below_or_from f (other_edge f s / 3))
+edge_names n f s w fb sb pos lt = go (cases_lt f (other_edge f s / 3))
   where
     r : OtherEdgeFace f s
     r = edge_other_face f s fb sb
@@ -145,7 +145,7 @@ point_is p a b e d = rw (← e, ← d) refl
 -- the naming that a program finds is one
 pub naming_names : (n : ℕ) (p : LatticePoint) → 1 ≤ n → OnLattice n p → Names n (naming n p) p
 unfolding naming corner_at edge_at
-naming_names n p le on = go (equal_or_not p.a 0) (equal_or_not p.b 0) (equal_or_not (p.a + p.b) n)
+naming_names n p le on = go (cases_eq p.a 0) (cases_eq p.b 0) (cases_eq (p.a + p.b) n)
   where
     within : p.a + p.b ≤ n
     within = on.weights_within
@@ -248,7 +248,7 @@ module _ {n : ℕ} {p : LatticePoint} {place next : ℕ} (lo : 1 ≤ n) (on : On
     pub counts : next + 1 ≡ firsts_before n (place + 1)
 
   pub new_vertex : get_or (id_table n) place 0 ≡ next → NewVertex
-  new_vertex e = go (true_or_false (is_first_appearance n p))
+  new_vertex e = go (cases_Bool (is_first_appearance n p))
     where
       go : (is_first_appearance n p ≡ true) ⊎ (is_first_appearance n p ≡ false) → NewVertex
       go (inl t) =
@@ -262,7 +262,7 @@ module _ {n : ℕ} {p : LatticePoint} {place next : ℕ} (lo : 1 ≤ n) (on : On
 
   -- and a point with another id is none
   pub known_vertex : get_or (id_table n) place 0 ≢ next → next ≡ firsts_before n (place + 1)
-  known_vertex d = go (true_or_false (is_first_appearance n p))
+  known_vertex d = go (cases_Bool (is_first_appearance n p))
     where
       go : (is_first_appearance n p ≡ true) ⊎ (is_first_appearance n p ≡ false) → next ≡ firsts_before n (place + 1)
       go (inl t) = absurd (d (id_here ∙ first_has_next t))

@@ -2,7 +2,7 @@
 use Rattle.std.proofs.Common.{◌≡◌, ℕ, suc, ◌+◌, ◌-◌, ◌*◌, ◌<◌, true, ◌&&◌, ◌||◌, eqb, ◌⊎◌, length, get_or, sym, refl, ap, ◌∙◌, inl, inr, arith, eq-eqb, eqb-true}
 use mathlib.Core.List.{Memᴰ}
 use lib.Ieee.{nan}
-use Rattle.booleans.proofs.Booleans.{and_split, and_intro, or_split, or_left, or_right}
+use Rattle.std.proofs.lemmas.Bool.{and_parts, and_from, or_cases, or_left, or_right}
 use Rattle.sequences.specs.Ascending.{Ascending}
 use Rattle.sequences.proofs.Range.{some_below_at, some_below_intro}
 use Rattle.sequences.proofs.Starts.{concatenate_even_length, concatenate_even_at, concatenate_part}
@@ -26,15 +26,15 @@ pub data Step (a b a₁ b₁ : ℕ) : Type 0 where
   b_to_c : a ≡ a₁ → b ≡ suc b₁ → Step a b a₁ b₁
 
 both_equal : (p q r s : ℕ) → eqb p q && eqb r s ≡ true → (p ≡ q) × (r ≡ s)
-both_equal p q r s h = let t = and_split (eqb p q) (eqb r s) h in (eqb-true p q t.0, eqb-true r s t.1)
+both_equal p q r s h = let t = and_parts (eqb p q) (eqb r s) h in (eqb-true p q t.0, eqb-true r s t.1)
 
 equal_both : (p q r s : ℕ) → p ≡ q → r ≡ s → eqb p q && eqb r s ≡ true
-equal_both p q r s e d = and_intro (eqb p q) (eqb r s) (eq-eqb p q e) (eq-eqb r s d)
+equal_both p q r s e d = and_from (eqb p q) (eqb r s) (eq-eqb p q e) (eq-eqb r s d)
 
 step_up : (a b a₁ b₁ : ℕ) → is_step_up a b a₁ b₁ ≡ true
     → ((a₁ ≡ suc a) × (suc b₁ ≡ b)) ⊎ (((a₁ ≡ suc a) × (b₁ ≡ b)) ⊎ ((a₁ ≡ a) × (b₁ ≡ suc b)))
 unfolding is_step_up
-step_up a b a₁ b₁ h = go (or_split (eqb a₁ (suc a) && eqb (suc b₁) b) _ h)
+step_up a b a₁ b₁ h = go (or_cases (eqb a₁ (suc a) && eqb (suc b₁) b) _ h)
   where
     rest : (eqb a₁ (suc a) && eqb b₁ b ≡ true) ⊎ (eqb a₁ a && eqb b₁ (suc b) ≡ true) → ((a₁ ≡ suc a) × (suc b₁ ≡ b)) ⊎ (((a₁ ≡ suc a) × (b₁ ≡ b)) ⊎ ((a₁ ≡ a) × (b₁ ≡ suc b)))
     rest (inl e) = inr (inl (both_equal _ _ _ _ e))
@@ -43,12 +43,12 @@ step_up a b a₁ b₁ h = go (or_split (eqb a₁ (suc a) && eqb (suc b₁) b) _ 
     go : (eqb a₁ (suc a) && eqb (suc b₁) b ≡ true) ⊎ ((eqb a₁ (suc a) && eqb b₁ b) || (eqb a₁ a && eqb b₁ (suc b)) ≡ true)
         → ((a₁ ≡ suc a) × (suc b₁ ≡ b)) ⊎ (((a₁ ≡ suc a) × (b₁ ≡ b)) ⊎ ((a₁ ≡ a) × (b₁ ≡ suc b)))
     go (inl e) = inl (both_equal _ _ _ _ e)
-    go (inr e) = rest (or_split (eqb a₁ (suc a) && eqb b₁ b) (eqb a₁ a && eqb b₁ (suc b)) e)
+    go (inr e) = rest (or_cases (eqb a₁ (suc a) && eqb b₁ b) (eqb a₁ a && eqb b₁ (suc b)) e)
 
 -- the test passes exactly at these six
 pub is_step_lem : (a b a₁ b₁ : ℕ) → is_step a b a₁ b₁ ≡ true → Step a b a₁ b₁
 unfolding is_step
-is_step_lem a b a₁ b₁ h = go (or_split (is_step_up a b a₁ b₁) (is_step_up a₁ b₁ a b) h)
+is_step_lem a b a₁ b₁ h = go (or_cases (is_step_up a b a₁ b₁) (is_step_up a₁ b₁ a b) h)
   where
     up : ((a₁ ≡ suc a) × (suc b₁ ≡ b)) ⊎ (((a₁ ≡ suc a) × (b₁ ≡ b)) ⊎ ((a₁ ≡ a) × (b₁ ≡ suc b))) → Step a b a₁ b₁
     up (inl e) = b_to_a e.0 e.1
@@ -129,8 +129,8 @@ neighbours_adjacent n p q onp onq h =
     let b₁ = some_below_at _ (suc (n - a₁.0)) a₁.2 in
     let on-from : OnLattice n (point_at f.0 a.0 b.0) = record { face_below = f.1; weights_within = omega (arith, a.1, b.1) } in
     let on-to : OnLattice n (point_at f.0 a₁.0 b₁.0) = record { face_below = f.1; weights_within = omega (arith, a₁.1, b₁.1) } in
-    let s = and_split (is_step a.0 b.0 a₁.0 b₁.0) _ b₁.2 in
-    let t = and_split (same_vertex n (point_at f.0 a.0 b.0) p) _ s.1 in
+    let s = and_parts (is_step a.0 b.0 a₁.0 b₁.0) _ b₁.2 in
+    let t = and_parts (same_vertex n (point_at f.0 a.0 b.0) p) _ s.1 in
     record {
       face = f.0;
       a = a.0;
@@ -152,8 +152,8 @@ adjacent_neighbours n p q t =
     (some_below_intro _ (suc (n - t.a)) t.b (omega (arith, t.from_on_lattice.weights_within))
     (some_below_intro _ (suc n) t.a₁ (omega (arith, t.to_on_lattice.weights_within))
     (some_below_intro _ (suc (n - t.a₁)) t.b₁ (omega (arith, t.to_on_lattice.weights_within))
-    (and_intro _ _ (step_is t.a t.b t.a₁ t.b₁ t.step)
-    (and_intro _ _ (weights_same_vertex n _ p t.from_same) (weights_same_vertex n _ q t.to_same)))))))
+    (and_from _ _ (step_is t.a t.b t.a₁ t.b₁ t.step)
+    (and_from _ _ (weights_same_vertex n _ p t.from_same) (weights_same_vertex n _ q t.to_same)))))))
 
 adjacent_back : (n : ℕ) (p q : LatticePoint) → Adjacent n p q → Adjacent n q p
 adjacent_back n p q t = record {

@@ -5,11 +5,11 @@ use lib.Ieee.{Float, fin, binary64, add, mul, div, neg, le, round}
 use lib.Ieee.Exact.{HasValue}
 use lib.Ieee.Order.{le_of_values}
 use lib.Ieee.Scale.{finite, round_same}
-use Rattle.booleans.proofs.Booleans.{and_split, or_split}
+use Rattle.std.proofs.lemmas.Bool.{and_parts, or_cases}
 use Rattle.binary64.specs.Absolute.{abs}
 use Rattle.binary64.specs.Convert.{whole}
 use Rattle.binary64.proofs.Absolute.{abs_within, abs_from_above, abs_from_below}
-use Rattle.binary64.proofs.LessThan.{le_transitive}
+use Rattle.std.proofs.lemmas.Float as float
 use Rattle.binary64.proofs.NotNan.{value_finite}
 use Rattle.binary64.proofs.SignedOrder.{signed_refl, unlike_plus, le_of_signed}
 use Rattle.binary64.proofs.WholeNumbers.{whole_value, whole_positive}
@@ -109,8 +109,8 @@ module _ (a b c n : ℕ) (some : 1 ≤ n) (few : n ≤ 80) (total : a + b + c �
         let two = between_add binary64 (term_between p a (omega arith) P) (term_between q b (omega arith) Q) (two_finite low l) (two_finite high h) in
         let three = between_add binary64 two (term_between r c (omega arith) R) (three_finite low l) (three_finite high h) in
         let m = between_div binary64 three (whole n) (whole_positive n some (omega arith)) (mean_finite low l) (mean_finite high h) in (
-          le_transitive low (mean low low low) (mean p q r) (not_above_mean low l) m.not_below,
-          le_transitive (mean p q r) (mean high high high) high m.not_above (not_below_mean high h),
+          float.le_trans low (mean low low low) (mean p q r) (not_above_mean low l) m.not_below,
+          float.le_trans (mean p q r) (mean high high high) high m.not_above (not_below_mean high h),
         )
 
 -- ---- a point of the lattice before it is normalised
@@ -136,15 +136,15 @@ module _ (n : ℕ) (p : LatticePoint) (some : 1 ≤ n) (few : n ≤ 80) (on : On
   along_between : (low high : Float) → Quarters low → Quarters high → (axis : ℕ) → corners_between low high p.face axis ≡ true → T (le low (along axis)) × T (le (along axis) high)
   unfolding corners_between
   along_between low high l h axis corners =
-      let first = and_split (lies_between low high (corner axis 0)) _ corners in
-      let others = and_split (lies_between low high (corner axis 1)) _ first.1 in
+      let first = and_parts (lies_between low high (corner axis 0)) _ corners in
+      let others = and_parts (lies_between low high (corner axis 1)) _ first.1 in
       rw (along_is axis)
       (mean_between p.a p.b (n - p.a - p.b) n some few (omega (arith, on.weights_within)) low high l h (corner axis 0) (corner axis 1) (corner axis 2)
       (within (corner axis 0) first.0) (within (corner axis 1) others.0) (within (corner axis 2) others.1))
     where
       within : (x : Float) → lies_between low high x ≡ true → Between low x high
       within x e =
-          let ends = and_split (le low x) (le x high) e in
+          let ends = and_parts (le low x) (le x high) e in
           record { low_finite = quarters_finite low l; high_finite = quarters_finite high h; not_below = subst T (sym ends.0) tt; not_above = subst T (sym ends.1) tt }
 
   along_within : (axis : ℕ) → T (le (abs (along axis)) (signed_one false))
@@ -157,7 +157,7 @@ module _ (n : ℕ) (p : LatticePoint) (some : 1 ≤ n) (few : n ≤ 80) (on : On
   unfolding neg on_one_side
   along_reaches =
       let axis = face_axis p.face in
-      elim (or_split (corners_between (signed_quarter false) (signed_one false) p.face axis) _ (face_on_one_side p.face on.face_below)) [
+      elim (or_cases (corners_between (signed_quarter false) (signed_one false) p.face axis) _ (face_on_one_side p.face on.face_below)) [
         | inl above ↦ abs_from_above (along axis) (signed_quarter false) (along_between (signed_quarter false) (signed_one false) (quarter false) (one false) axis above).0
         | inr below ↦ abs_from_below (along axis) (signed_quarter false) (along_between (signed_one true) (signed_quarter true) (one true) (quarter true) axis below).1
       ]

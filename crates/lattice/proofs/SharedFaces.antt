@@ -1,7 +1,7 @@
 -- Laws of shared points, by the tables that a program looks up: on which faces a corner, an edge or an inside stands, and where it is new. Assumes nothing.
 use Rattle.std.proofs.Common.{◌≡◌, ℕ, zero, suc, ◌+◌, ◌-◌, ◌/◌, ◌%◌, ◌<◌, ◌≤◌, Bool, true, false, cond, not, ◌&&◌, ◌||◌, eqb, ltb, leb, ◌≢◌, ◌⊎◌, sym, refl, ◌∙◌, inl, inr, arith, ltb-true, le-ltb, lt-ltb, eqb-true, leb-true}
 use borrow.Author.Tests.{eqb-false, not-true}
-use Rattle.booleans.proofs.Booleans.{and_split, or_split, true_false}
+use Rattle.std.proofs.lemmas.Bool.{and_parts, or_cases, both_ways}
 use Rattle.sequences.specs.Range.{all_below, some_below}
 use Rattle.sequences.proofs.Range.{all_below_at}
 use Rattle.icosahedron.specs.Icosahedron.{face_corner}
@@ -37,15 +37,15 @@ edge_support test n f (suc (suc s)) w pos lt = rw (lt-ltb 0 w pos, lt-ltb 0 (n -
 
 -- ---- computed tests of the twenty faces, for each place
 at_place : (test : ℕ → ℕ → Bool) → all_below (test 0) 20 && (all_below (test 1) 20 && all_below (test 2) 20) ≡ true → (s f : ℕ) → s < 3 → f < 20 → test s f ≡ true
-at_place test h zero f sb fb = all_below_at (test 0) 20 f (and_split (all_below (test 0) 20) _ h).0 fb
-at_place test h (suc zero) f sb fb = all_below_at (test 1) 20 f (and_split (all_below (test 1) 20) _ (and_split (all_below (test 0) 20) _ h).1).0 fb
-at_place test h (suc (suc zero)) f sb fb = all_below_at (test 2) 20 f (and_split (all_below (test 1) 20) _ (and_split (all_below (test 0) 20) _ h).1).1 fb
+at_place test h zero f sb fb = all_below_at (test 0) 20 f (and_parts (all_below (test 0) 20) _ h).0 fb
+at_place test h (suc zero) f sb fb = all_below_at (test 1) 20 f (and_parts (all_below (test 1) 20) _ (and_parts (all_below (test 0) 20) _ h).1).0 fb
+at_place test h (suc (suc zero)) f sb fb = all_below_at (test 2) 20 f (and_parts (all_below (test 1) 20) _ (and_parts (all_below (test 0) 20) _ h).1).1 fb
 at_place test h (suc (suc (suc s))) f sb fb = absurd (let z : ⊥ = omega arith in z)
 
 -- two tests agree
 same_truth : (a b : Bool) → cond a b (not b) ≡ true → a ≡ b
 same_truth true b h = sym h
-same_truth false true h = absurd (true_false false h refl)
+same_truth false true h = absurd (both_ways false refl h)
 same_truth false false h = refl
 
 -- ---- inside a face: new
@@ -81,8 +81,8 @@ pub corner_first_face : (f s : ℕ) → f < 20 → s < 3 → FirstCornerFace f s
 unfolding corner_test is_first_appearance
 corner_first_face f s fb sb =
     let h : corner_test s f ≡ true = at_place corner_test corner_tests s f sb fb in
-    let r = and_split (leb (first_corner f s / 3) f) _ h in
-    let t = and_split (eqb (face_corner (first_corner f s / 3) (first_corner f s % 3)) (face_corner f s)) _ r.1 in
+    let r = and_parts (leb (first_corner f s / 3) f) _ h in
+    let t = and_parts (eqb (face_corner (first_corner f s / 3) (first_corner f s % 3)) (face_corner f s)) _ r.1 in
     record {
       face_at_most = leb-true _ _ r.0;
       same_corner = eqb-true _ _ t.0;
@@ -126,7 +126,7 @@ pub record OtherEdgeFace (f s : ℕ) : Type 0 where
 
 edge_no_third : (f s n w g : ℕ) → all_below (edge_alone s f) 20 ≡ true → 0 < w → w < n → g < 20 → lies_on n g (edge_at n f s w) ≡ true → (g ≡ f) ⊎ (g ≡ other_edge f s / 3)
 unfolding edge_alone lies_on
-edge_no_third f s n w g alone pos lt gb h = go (or_split (eqb g f) (eqb g (other_edge f s / 3)) (rw (sym (edge_support (has_corners g) n f s w pos lt) ∙ h) at tested))
+edge_no_third f s n w g alone pos lt gb h = go (or_cases (eqb g f) (eqb g (other_edge f s / 3)) (rw (sym (edge_support (has_corners g) n f s w pos lt) ∙ h) at tested))
   where
     tested : not (on_edge (has_corners g) s f) || (eqb g f || eqb g (other_edge f s / 3)) ≡ true
     tested = all_below_at (edge_alone s f) 20 g alone gb
@@ -140,11 +140,11 @@ pub edge_other_face : (f s : ℕ) → f < 20 → s < 3 → OtherEdgeFace f s
 unfolding edge_test edge_tabled is_first_appearance
 edge_other_face f s fb sb =
     let h : edge_test s f ≡ true = at_place edge_test edge_tests s f sb fb in
-    let r = and_split (edge_tabled s f) _ h in
-    let t = and_split (all_below (edge_alone s f) 20) _ r.1 in
-    let u = and_split (ltb (other_edge f s / 3) 20 && not (eqb (other_edge f s / 3) f)) _ r.0 in
-    let v = and_split (ltb (other_edge f s / 3) 20) _ u.0 in
-    let w = and_split (eqb (face_corner (other_edge f s / 3) (next_place (other_edge f s % 3))) (face_corner f (next_place (next_place s)))) _ u.1 in
+    let r = and_parts (edge_tabled s f) _ h in
+    let t = and_parts (all_below (edge_alone s f) 20) _ r.1 in
+    let u = and_parts (ltb (other_edge f s / 3) 20 && not (eqb (other_edge f s / 3) f)) _ r.0 in
+    let v = and_parts (ltb (other_edge f s / 3) 20) _ u.0 in
+    let w = and_parts (eqb (face_corner (other_edge f s / 3) (next_place (other_edge f s % 3))) (face_corner f (next_place (next_place s)))) _ u.1 in
     record {
       face_below = ltb-true _ _ v.0;
       face_differs = eqb-false _ _ (not-true _ v.1);

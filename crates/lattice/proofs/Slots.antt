@@ -1,8 +1,9 @@
 -- Laws of slots and of the id table: where a point stands among its face's points and among all. Assumes nothing.
 use Rattle.std.proofs.Common.{◌≡◌, ℕ, zero, suc, ◌+◌, ◌-◌, ◌*◌, ◌<◌, ◌≤◌, List, length, get_or, sym, ap, ◌∙◌, mul-le-mul_right, mul_comm, add-mul, mul-suc, mul-add, mul_left_comm, arith}
 use lib.ListN.{length-map}
+use Rattle.std.proofs.lemmas.List.{get_or-map}
 use Rattle.sequences.specs.Starts.{start_of}
-use Rattle.sequences.proofs.Tabulate.{length_tabulate, tabulate_at, get_d_map}
+use Rattle.sequences.proofs.Tabulate.{length_tabulate, tabulate_at}
 use Rattle.sequences.proofs.Starts.{concatenate_at, length_concatenate, start_suc, start_zero, concatenate_even_length, concatenate_even_at}
 use Rattle.icosahedron.specs.Slots.{slot_of, slots_per_face}
 use Rattle.icosahedron.proofs.Slots.{slot_below}
@@ -75,5 +76,5 @@ length_id_table n = length-map (lattice_points n) (id_of n) ∙ length_points n
 pub id_table_at : (n face a b : ℕ) → face < 20 → a + b ≤ n → get_or (id_table n) (face * slots_per_face n + slot_of n a b) 0 ≡ id_of n (point_at face a b)
 unfolding id_table
 id_table_at n face a b lt within =
-    get_d_map (id_of n) (lattice_points n) (face * slots_per_face n + slot_of n a b) (point_at 0 0 0) 0 (rw (length_points n) (place_earlier n face 20 a b lt within))
+    get_or-map (id_of n) (lattice_points n) (face * slots_per_face n + slot_of n a b) (point_at 0 0 0) 0 (rw (length_points n) (place_earlier n face 20 a b lt within))
     ∙ ap (id_of n) (point_place n face a b (point_at 0 0 0) lt within)

@@ -1,6 +1,6 @@
 -- Laws of the six steps by their numbers: where each leads, and that they are all. Assumes nothing.
 use Rattle.std.proofs.Common.{◌≡◌, ℕ, zero, suc, ◌+◌, ◌-◌, ◌<◌, ◌≤◌, ◌≢◌, ◌⊎◌, [], ◌∷◌, get_or, sym, refl, ap, ◌∙◌, inl, inr, arith, eq-eqb, ne_eqb}
-use Rattle.sequences.proofs.Range.{equal_or_not}
+use Rattle.std.proofs.lemmas.Bool.{cases_eq}
 use Rattle.lattice.specs.Lattice.{LatticePoint, point_at}
 use Rattle.lattice.specs.Appearances.{OnLattice}
 use Rattle.lattice.specs.declared.face_points.Step as Program
@@ -84,32 +84,32 @@ module _ (n : ℕ) (p : LatticePoint) (on : OnLattice n p) where
       record { on_lattice = q; unless_same = λ d. record { same_face = refl; on_lattice = q; is_step_lem = s } }
 
   pub step_or_stay : (step : ℕ) → StepOrStay n p (step_from n p step)
-  step_or_stay zero = go (equal_or_not p.a 0)
+  step_or_stay zero = go (cases_eq p.a 0)
     where
       go : (p.a ≡ 0) ⊎ (p.a ≢ 0) → StepOrStay n p (step_from n p 0)
       go (inl e) = stay _ (sym (stays_first n p 0 (omega arith) e))
       go (inr d) = rw (← step_first_third n p 0 refl d) (move (p.a - 1) p.b (omega (arith, on.weights_within)) (a_to_c (omega arith) refl))
-  step_or_stay (suc zero) = go (equal_or_not p.a 0)
+  step_or_stay (suc zero) = go (cases_eq p.a 0)
     where
       go : (p.a ≡ 0) ⊎ (p.a ≢ 0) → StepOrStay n p (step_from n p 1)
       go (inl e) = stay _ (sym (stays_first n p 1 (omega arith) e))
       go (inr d) = rw (← step_first_second n p 1 refl d) (move (p.a - 1) (p.b + 1) (omega (arith, on.weights_within)) (a_to_b (omega arith) (omega arith)))
-  step_or_stay (suc (suc zero)) = go (equal_or_not p.b 0)
+  step_or_stay (suc (suc zero)) = go (cases_eq p.b 0)
     where
       go : (p.b ≡ 0) ⊎ (p.b ≢ 0) → StepOrStay n p (step_from n p 2)
       go (inl e) = stay _ (sym (stays_second n p 2 (omega arith) (omega arith) e))
       go (inr d) = rw (← step_second_third n p 2 refl d) (move p.a (p.b - 1) (omega (arith, on.weights_within)) (b_to_c refl (omega arith)))
-  step_or_stay (suc (suc (suc zero))) = go (equal_or_not p.b 0)
+  step_or_stay (suc (suc (suc zero))) = go (cases_eq p.b 0)
     where
       go : (p.b ≡ 0) ⊎ (p.b ≢ 0) → StepOrStay n p (step_from n p 3)
       go (inl e) = stay _ (sym (stays_second n p 3 (omega arith) (omega arith) e))
       go (inr d) = rw (← step_second_first n p 3 refl d) (move (p.a + 1) (p.b - 1) (omega (arith, on.weights_within)) (b_to_a (omega arith) (omega arith)))
-  step_or_stay (suc (suc (suc (suc zero)))) = go (equal_or_not (p.a + p.b) n)
+  step_or_stay (suc (suc (suc (suc zero)))) = go (cases_eq (p.a + p.b) n)
     where
       go : (p.a + p.b ≡ n) ⊎ (p.a + p.b ≢ n) → StepOrStay n p (step_from n p 4)
       go (inl e) = stay _ (sym (stays_third n p 4 (omega arith) e))
       go (inr d) = rw (← step_third_second n p 4 refl d) (move p.a (p.b + 1) (omega (arith, on.weights_within)) (c_to_b refl (omega arith)))
-  step_or_stay (suc (suc (suc (suc (suc step))))) = go (equal_or_not (p.a + p.b) n)
+  step_or_stay (suc (suc (suc (suc (suc step))))) = go (cases_eq (p.a + p.b) n)
     where
       go : (p.a + p.b ≡ n) ⊎ (p.a + p.b ≢ n) → StepOrStay n p (step_from n p (suc (suc (suc (suc (suc step))))))
       go (inl e) = stay _ (sym (stays_third n p (suc (suc (suc (suc (suc step))))) (omega arith) e))

@@ -1,10 +1,10 @@
 -- Laws of a loop that writes positions and list starts, vertex by vertex, and of the lengths of lists by a point's weights. Assumes nothing.
 use Rattle.std.proofs.Common.{◌≡◌, ℕ, suc, ◌+◌, ◌-◌, ◌*◌, ◌<◌, ◌≤◌, Bool, true, false, ◌||◌, cond, ltb, eqb, ◌≢◌, ◌⊎◌, inl, inr, eq-eqb, ne_eqb, List, length, get_or, take, set, sym, refl, ap, ◌∙◌, subst, add-one, arith, get_or-take, ltb-false, le-ltb, lt-ltb}
 use lib.Ieee.{Float, nan}
+use Rattle.std.proofs.lemmas.Bool.{cases_eq}
 use Rattle.sequences.specs.Tabulate.{overwrite, Overwritten}
 use Rattle.sequences.specs.Starts.{start_of}
 use Rattle.sequences.proofs.Tabulate.{overwritten_none, overwritten_set, overwritten_all}
-use Rattle.sequences.proofs.Range.{equal_or_not}
 use Rattle.sequences.proofs.Starts.{start_zero, start_suc, length_starts, starts_at}
 use Rattle.vector.specs.declared.Vector3.{Vector3}
 use Rattle.lattice.specs.Lattice.{LatticePoint, lattice_vertices, lattice_list, lattice_mesh, point_position}
@@ -51,7 +51,7 @@ module _ (n : ℕ) (p : LatticePoint) (lo : 1 ≤ n) (within : p.a + p.b ≤ n) 
 
   -- a point is a corner where one weight is n
   pub corner_by_weights : is_corner n p ≡ (eqb p.a n || (eqb p.b n || eqb (p.a + p.b) 0))
-  corner_by_weights = go (equal_or_not p.a n) (equal_or_not p.b n) (equal_or_not (p.a + p.b) 0)
+  corner_by_weights = go (cases_eq p.a n) (cases_eq p.b n) (cases_eq (p.a + p.b) 0)
     where
       go : (p.a ≡ n) ⊎ (p.a ≢ n) → (p.b ≡ n) ⊎ (p.b ≢ n) → (p.a + p.b ≡ 0) ⊎ (p.a + p.b ≢ 0) → is_corner n p ≡ (eqb p.a n || (eqb p.b n || eqb (p.a + p.b) 0))
       go (inl a) b c = rw (corner_first_weight a, eq-eqb p.a n a) refl

@@ -4,12 +4,12 @@ use mathlib.Core.List.Memᴰ
 use mathlib.Core.List.{Memᴰ}
 use lib.Seq.{get_or-append_seam}
 use borrow.Author.Tests.{not-true, not-false}
-use Rattle.booleans.proofs.Booleans.{true_or_false, true_false}
+use Rattle.std.proofs.lemmas.Bool.{cases_Bool, both_ways, cases_lt}
 use Rattle.sequences.specs.Range.{some_below}
 use Rattle.sequences.specs.Ascending.{Pairwise}
 use Rattle.sequences.specs.Filter.{filter}
 use Rattle.sequences.specs.Search.{first_below}
-use Rattle.sequences.proofs.Range.{some_below_at, below_or_from, some_below_none}
+use Rattle.sequences.proofs.Range.{some_below_at, some_below_none}
 use Rattle.sequences.proofs.Tabulate.{get_d_member, member_get_d}
 use Rattle.sequences.proofs.Ascending.{pairwise_weaken}
 use Rattle.sequences.proofs.Filter.{filter_member, member_filter, filter_true, filter_false, filter_append, pairwise_filter}
@@ -51,7 +51,7 @@ pub record EarlierAppearance (n : ℕ) (p : LatticePoint) : Type 0 where
 pub earlier_appearance : (n : ℕ) (p : LatticePoint) → OnLattice n p → is_first_appearance n p ≡ false → EarlierAppearance n p
 unfolding point_with
 earlier_appearance n p on h = record {
-  first = record { point = q; on_lattice = on_q; is_first = is_first_lies_on n q ∙ ap not (none_earlier (true_or_false _)); same_weights = same };
+  first = record { point = q; on_lattice = on_q; is_first = is_first_lies_on n q ∙ ap not (none_earlier (cases_Bool _)); same_weights = same };
   is_earlier = found.0;
 }
   where
@@ -77,13 +77,13 @@ earlier_appearance n p on h = record {
     none_earlier (inl t) =
         let r = some_below_at (λ g. lies_on n g q) f t in
         absurd
-        (true_false (lies_on n r.0 p) (same_weights_faces n q p on_q on same r.0 (omega (arith, r.1, face_below)) r.2)
-        ((first_below_lem (λ g. lies_on n g p) p.face).none_before r.0 r.1))
+        (both_ways (lies_on n r.0 p) ((first_below_lem (λ g. lies_on n g p) p.face).none_before r.0 r.1)
+        (same_weights_faces n q p on_q on same r.0 (omega (arith, r.1, face_below)) r.2))
     none_earlier (inr none) = none
 
 -- each point has a first appearance
 pub first_appearance : (n : ℕ) (p : LatticePoint) → OnLattice n p → FirstAppearance n p
-first_appearance n p on = go (true_or_false (is_first_appearance n p))
+first_appearance n p on = go (cases_Bool (is_first_appearance n p))
   where
     go : (is_first_appearance n p ≡ true) ⊎ (is_first_appearance n p ≡ false) → FirstAppearance n p
     go (inl t) = record { point = p; on_lattice = on; is_first = t; same_weights = λ k. refl }
@@ -96,17 +96,17 @@ Apart n q p = is_first_appearance n p ≡ true → same_vertex n q p ≡ false
 points_apart : (n : ℕ) → Pairwise (Apart n) (lattice_points n)
 points_apart n =
     pairwise_weaken Precedes (Apart n) (lattice_points n)
-    (λ q p mq mp before first. go q p (point_on_lattice n q mq) (point_on_lattice n p mp) before first (true_or_false (same_vertex n q p))) (points_in_order n)
+    (λ q p mq mp before first. go q p (point_on_lattice n q mq) (point_on_lattice n p mp) before first (cases_Bool (same_vertex n q p))) (points_in_order n)
   where
     go : (q p : LatticePoint) → OnLattice n q → OnLattice n p → Precedes q p → is_first_appearance n p ≡ true → (same_vertex n q p ≡ true) ⊎ (same_vertex n q p ≡ false) → same_vertex n q p ≡ false
     go q p onq onp before first (inr f) = f
-    go q p onq onp before first (inl t) = absurd (which (below_or_from q.face p.face))
+    go q p onq onp before first (inl t) = absurd (which (cases_lt q.face p.face))
       where
         same : SameWeights n q p
         same = same_vertex_weights n q p onq onp t
 
         which : (q.face < p.face) ⊎ (p.face ≤ q.face) → ⊥
-        which (inl lt) = true_false (lies_on n q.face p) (same_weights_lies_on n p q onp onq (λ k. sym (same k))) (first_alone n p first q.face lt)
+        which (inl lt) = both_ways (lies_on n q.face p) (first_alone n p first q.face lt) (same_weights_lies_on n p q onp onq (λ k. sym (same k)))
         which (inr le) = before.points_differ (same_face_point n q p onq onp (omega (arith, le, before.faces_ascend)) same)
 
 -- ---- the place of the first that is the same vertex
@@ -118,10 +118,10 @@ place_none n k (x ∷ l) p h = rw (h x (Memᴰ.head refl)) (place_none n (suc k)
 place_some : (n k : ℕ) (l : List LatticePoint) (p q : LatticePoint) → Memᴰ q l → same_vertex n q p ≡ true → first_place_from n k l p < k + length l
 unfolding first_place_from
 place_some n k [] p q m h = elim m [ ]
-place_some n k (x ∷ l) p q m h = go (true_or_false (same_vertex n x p)) (Memᴰ.cases_cons m) (λ ml. place_some n (suc k) l p q ml h)
+place_some n k (x ∷ l) p q m h = go (cases_Bool (same_vertex n x p)) (Memᴰ.cases_cons m) (λ ml. place_some n (suc k) l p q ml h)
   where
     rest : (q ≡ x) ⊎ Memᴰ q l → same_vertex n x p ≡ false → (Memᴰ q l → first_place_from n (suc k) l p < suc k + length l) → first_place_from n (suc k) l p < k + suc (length l)
-    rest (inl e) f below = absurd (true_false (same_vertex n x p) (ap (λ (z : LatticePoint). same_vertex n z p) (sym e) ∙ h) f)
+    rest (inl e) f below = absurd (both_ways (same_vertex n x p) f (ap (λ (z : LatticePoint). same_vertex n z p) (sym e) ∙ h))
     rest (inr ml) f below = omega (arith, below ml)
 
     go : (same_vertex n x p ≡ true) ⊎ (same_vertex n x p ≡ false) → (q ≡ x) ⊎ Memᴰ q l → (Memᴰ q l → first_place_from n (suc k) l p < suc k + length l)
@@ -138,7 +138,7 @@ appearances_filter : (n : ℕ) (l r : List LatticePoint) → lattice_points n �
 unfolding first_appearances
 appearances_filter n l [] e = ap (filter (is_first_appearance n)) (sym (append-nil l) ∙ sym e)
 appearances_filter n l (p ∷ r) e =
-    ap (λ (met : List LatticePoint). first_appearances n met r) (step (true_or_false (is_first_appearance n p)))
+    ap (λ (met : List LatticePoint). first_appearances n met r) (step (cases_Bool (is_first_appearance n p)))
     ∙ appearances_filter n (l ++ (p ∷ [])) r (e ∙ sym (append_assoc l (p ∷ []) r))
   where
     met : List LatticePoint

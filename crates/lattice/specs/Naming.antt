@@ -1,5 +1,6 @@
 -- What a program looks up as it goes through the points in order: the place of a point, the earliest tabled naming of its vertex, and its six steps. Definitions only.
-use Rattle.std.specs.Prelude.{ℕ, zero, suc, ◌+◌, ◌-◌, ◌*◌, ◌/◌, ◌%◌, cond, ◌==◌, nat_lt}
+use Rattle.std.specs.Prelude.{◌≡◌, ℕ, zero, suc, ◌+◌, ◌-◌, ◌*◌, ◌/◌, ◌%◌, cond, ◌==◌, nat_lt}
+use Rattle.icosahedron.specs.declared.frequency.Frequency.{Frequency}
 use Rattle.icosahedron.specs.Slots.{slot_of, slots_per_face}
 use Rattle.lattice.specs.declared.face_points.FacePoint.{FacePoint}
 use Rattle.lattice.specs.declared.face_points.Step.{Step}
@@ -10,6 +11,11 @@ use Rattle.lattice.specs.Shared.{corner_at, edge_at, first_corner, other_edge}
 -- The program's point.
 abbrev pub point_of : FacePoint → LatticePoint
 point_of p = point_at p.face.index p.a p.b
+
+-- The program's point p is the point q of the lattice of frequency f.
+pub record IsPoint (p : FacePoint) (f : Frequency) (q : LatticePoint) : Type 0 where
+  pub frequency : p.frequency ≡ f
+  pub point : point_of p ≡ q
 
 -- The place of a point among all: "the twenty faces' slots, one face behind another".
 unfoldable pub place_of : ℕ → LatticePoint → ℕ

@@ -41,13 +41,13 @@ impl FacePoint {
     ghost use Rattle.icosahedron.specs.Corners.{corner_number};
     ghost use Rattle.lattice.specs.Appearances.{is_corner};
     ghost use Rattle.lattice.specs.Shared.{corner_at, edge_at};
-    ghost use Rattle.lattice.specs.Naming.{point_of, place_of, step_from, step_number};
+    ghost use Rattle.lattice.specs.Naming.{IsPoint, point_of, place_of, step_from, step_number};
     ghost use Rattle.lattice.specs.Inside.{is_inside};
 
+    // The frequency and the face stand apart: of a struct of both, each place that reads one of them at a point would name one field more.
     pub fn new(frequency: Frequency, face: Face, a: usize, b: usize) -> FacePoint
         requires { a + b ≤ frequency.n }
-        ensures frequency { result.frequency ≡ frequency }
-        ensures point { point_of result ≡ point_at face.index a b }
+        ensures { IsPoint result frequency (point_at face.index a b) }
     {
         FacePoint {
             frequency,
@@ -59,8 +59,7 @@ impl FacePoint {
 
     // The point with all weight on one corner.
     pub fn on_corner(frequency: Frequency, face: Face, corner: Corner) -> FacePoint
-        ensures frequency { result.frequency ≡ frequency }
-        ensures point { point_of result ≡ corner_at frequency.n face.index (corner_number corner) }
+        ensures { IsPoint result frequency (corner_at frequency.n face.index (corner_number corner)) }
     {
         match corner {
             Corner::A => FacePoint::new(frequency, face, frequency.n, 0),
@@ -72,8 +71,7 @@ impl FacePoint {
     // A point of the edge opposite to a corner, with its weight on the next corner.
     pub fn on_edge(frequency: Frequency, face: Face, opposite: Corner, weight: usize) -> FacePoint
         requires { weight ≤ frequency.n }
-        ensures frequency { result.frequency ≡ frequency }
-        ensures point { point_of result ≡ edge_at frequency.n face.index (corner_number opposite) weight }
+        ensures { IsPoint result frequency (edge_at frequency.n face.index (corner_number opposite) weight) }
     {
         match opposite {
             Corner::A => FacePoint::new(frequency, face, 0, weight),
@@ -92,16 +90,14 @@ impl FacePoint {
     // Another point of the face.
     fn moved(self, a: usize, b: usize) -> FacePoint
         requires { a + b ≤ self.frequency.n }
-        ensures frequency { result.frequency ≡ self.frequency }
-        ensures point { point_of result ≡ point_at self.face.index a b }
+        ensures { IsPoint result self.frequency (point_at self.face.index a b) }
     {
         FacePoint::new(self.frequency, self.face, a, b)
     }
 
     // The point that a step leads to; the point itself where the weight that falls is zero.
     pub fn step(self, step: Step) -> FacePoint
-        ensures frequency { result.frequency ≡ self.frequency }
-        ensures point { point_of result ≡ step_from self.frequency.n (point_of self) (step_number step) }
+        ensures { IsPoint result self.frequency (step_from self.frequency.n (point_of self) (step_number step)) }
     {
         let n = self.frequency.n;
         match step {

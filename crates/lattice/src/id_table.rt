@@ -1,5 +1,5 @@
 // The id table: the id of the vertex at each point.
-ghost use Rattle.std.specs.Prelude.{◌≡◌, ◌*◌, ◌≤◌, length};
+ghost use Rattle.std.specs.Prelude.{◌≡◌, ◌+◌, ◌*◌, ◌≤◌, length};
 ghost use Rattle.sequences.specs.Tabulate.{overwrite};
 ghost use Rattle.icosahedron.specs.Slots.{slots_per_face};
 ghost use Rattle.lattice.specs.Lattice.{id_of, id_table};
@@ -16,41 +16,60 @@ pub struct IdTable<'a> {
     pub ghost filled: { HoldsIdTable frequency.n ids.now },
 }
 
-impl<'a> IdTable<'a> {
-    ghost use Rattle.lattice.specs.Naming.{point_of};
+// A point of the lattice of an id table.
+#[derive(Clone, Copy, Debug)]
+pub struct TablePoint<'a> {
+    pub table: IdTable<'a>,
+    pub point: FacePoint,
+    pub ghost of_lattice: { point.frequency.n ≡ table.frequency.n },
+}
+
+impl<'a> TablePoint<'a> {
+    ghost use Rattle.lattice.specs.Naming.{IsPoint, point_of, step_from, step_number};
     ghost use Rattle.lattice.specs.Inside.{step_ids};
 
-    // The id of the vertex at a point.
-    pub fn id(self, p: FacePoint) -> u16
-        requires { p.frequency.n ≡ self.frequency.n }
-        ensures { result ≡ id_of p.frequency.n (point_of p) }
+    // The id of the vertex at the point.
+    pub fn id(self) -> u16
+        ensures { result ≡ id_of self.entry.point.frequency.n (point_of self.entry.point) }
     {
-        self.ids[p.place()]
+        self.table.ids[self.point.place()]
     }
 
-    // The ids at the ends of a point's six steps, in the order of their places.
-    pub fn around(self, p: FacePoint) -> [u16; 6]
-        requires { p.frequency.n ≡ self.frequency.n }
-        ensures { result ≡ step_ids p.frequency.n (point_of p) }
+    // The point that a step leads to.
+    pub fn step(self, step: Step) -> TablePoint<'a>
+        ensures { IsPoint result.point self.entry.point.frequency (step_from self.entry.point.frequency.n (point_of self.entry.point) (step_number step)) }
+    {
+        TablePoint {
+            table: self.table,
+            point: self.point.step(step),
+        }
+    }
+
+    // The ids at the ends of the six steps, in the order of their places.
+    pub fn around(self) -> [u16; 6]
+        ensures { result ≡ step_ids self.entry.point.frequency.n (point_of self.entry.point) }
     {
         [
-            self.id(p.step(Step::FirstToThird)),
-            self.id(p.step(Step::FirstToSecond)),
-            self.id(p.step(Step::SecondToThird)),
-            self.id(p.step(Step::ThirdToSecond)),
-            self.id(p.step(Step::SecondToFirst)),
-            self.id(p.step(Step::ThirdToFirst)),
+            self.step(Step::FirstToThird).id(),
+            self.step(Step::FirstToSecond).id(),
+            self.step(Step::SecondToThird).id(),
+            self.step(Step::ThirdToSecond).id(),
+            self.step(Step::SecondToFirst).id(),
+            self.step(Step::ThirdToFirst).id(),
         ]
     }
 }
 
 // The id table: a point that is new has the next id, any other the id that its vertex was given before.
+// The three loops stand in each pass over the points: an iterator in their place would be a struct of frequency, face, a and b, with a `next`
+// that carries from b to a to the face, for four lines. `0..n + 1` and not `0..=n`: a range that holds its end is left from its last round as
+// well, and so what a round does would be shown twice.
 pub fn fill_ids(frequency: Frequency, ids: &mut [u16])
     requires { 20 * slots_per_face frequency.n ≤ length ids.old }
     ensures { ids.new ≡ overwrite (id_table frequency.n) ids.old }
 {
     let n = frequency.n;
-    // Counted beside the three loops: to work a point's place out each time would take products.
+    // Counted beside the loops, which go through the places in order: the count is the place, which `place()` would work out again.
     let mut place = 0;
     let mut next: usize = 0;
     for index in 0..20 {

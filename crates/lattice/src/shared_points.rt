@@ -2,11 +2,11 @@
 ghost use Rattle.std.specs.Prelude.{◌≡◌, ◌+◌, ◌*◌, ◌≤◌};
 ghost use Rattle.icosahedron.specs.Corners.{corner_number};
 ghost use Rattle.lattice.specs.Shared.{first_corner, other_edge};
-ghost use Rattle.lattice.specs.Naming.{point_of, corner_naming, edge_naming, naming};
+ghost use Rattle.lattice.specs.Naming.{IsPoint, point_of, corner_naming, edge_naming, naming};
 
 use crate::face_points::FacePoint;
 use icosahedron::Corner::{A, B, C};
-use icosahedron::{Corner, Face, Frequency};
+use icosahedron::{Corner, Face};
 
 // For each corner of each face, the face that has it first, and its place there.
 const FIRST_CORNERS: [[(u8, Corner); 3]; 20] = [
@@ -71,48 +71,41 @@ fn other_edge(face: Face, opposite: Corner) -> (Face, Corner)
     (Face::new(other as usize), place)
 }
 
-// The corner, on the face that has it first.
-fn corner_naming(frequency: Frequency, face: Face, corner: Corner) -> FacePoint
-    ensures frequency { result.frequency ≡ frequency }
-    ensures point { point_of result ≡ corner_naming frequency.n face.index (corner_number corner) }
-{
-    let (first, place) = first_corner(face, corner);
-    FacePoint::on_corner(frequency, first, place)
-}
-
-// The point of an edge, on the earlier of the two faces that have it.
-fn edge_naming(frequency: Frequency, face: Face, opposite: Corner, weight: usize) -> FacePoint
-    requires { weight ≤ frequency.n }
-    ensures frequency { result.frequency ≡ frequency }
-    ensures point { point_of result ≡ edge_naming frequency.n face.index (corner_number opposite) weight }
-{
-    let (other, place) = other_edge(face, opposite);
-    if face.index < other.index {
-        FacePoint::on_edge(frequency, face, opposite, weight)
-    } else {
-        FacePoint::on_edge(frequency, other, place, frequency.n - weight)
-    }
-}
-
 impl FacePoint {
+    // A corner of the point's face, on the face that has it first.
+    fn corner_naming(self, corner: Corner) -> FacePoint
+        ensures { IsPoint result self.frequency (corner_naming self.frequency.n self.face.index (corner_number corner)) }
+    {
+        let (first, place) = first_corner(self.face, corner);
+        FacePoint::on_corner(self.frequency, first, place)
+    }
+
+    // A point of an edge of the point's face, on the earlier of the two faces that have it.
+    fn edge_naming(self, opposite: Corner, weight: usize) -> FacePoint
+        requires { weight ≤ self.frequency.n }
+        ensures { IsPoint result self.frequency (edge_naming self.frequency.n self.face.index (corner_number opposite) weight) }
+    {
+        let (other, place) = other_edge(self.face, opposite);
+        if self.face.index < other.index {
+            FacePoint::on_edge(self.frequency, self.face, opposite, weight)
+        } else {
+            FacePoint::on_edge(self.frequency, other, place, self.frequency.n - weight)
+        }
+    }
+
     // The first appearance of a point's vertex.
     pub fn naming(self) -> FacePoint
-        ensures frequency { result.frequency ≡ self.frequency }
-        ensures point { point_of result ≡ naming self.frequency.n (point_of self) }
+        ensures { IsPoint result self.frequency (naming self.frequency.n (point_of self)) }
     {
-        let FacePoint {
-            frequency,
-            face,
-            a,
-            b,
-        } = self;
-        match (a == 0, b == 0, a + b == frequency.n) {
-            (true, true, _) => corner_naming(frequency, face, C),
-            (true, false, true) => corner_naming(frequency, face, B),
-            (true, false, false) => edge_naming(frequency, face, A, b),
-            (false, true, true) => corner_naming(frequency, face, A),
-            (false, true, false) => edge_naming(frequency, face, B, frequency.n - a),
-            (false, false, true) => edge_naming(frequency, face, C, a),
+        let n = self.frequency.n;
+        let FacePoint { a, b, .. } = self;
+        match (a == 0, b == 0, a + b == n) {
+            (true, true, _) => self.corner_naming(C),
+            (true, false, true) => self.corner_naming(B),
+            (true, false, false) => self.edge_naming(A, b),
+            (false, true, true) => self.corner_naming(A),
+            (false, true, false) => self.edge_naming(B, n - a),
+            (false, false, true) => self.edge_naming(C, a),
             (false, false, false) => self,
         }
     }

@@ -47,7 +47,7 @@ fn put_position(positions: &mut [f64], vertex: usize, position: Vector3)
     positions[vertex * 3 + 2] = position.z;
 }
 
-// Positions and list starts: a point with the next id is the next vertex.
+// Positions and list starts: a point with the next id is the next vertex. The loops are as in `fill_ids`.
 pub fn fill_vertices(table: IdTable, positions: &mut [f64], starts: &mut [u32])
     requires positions { length (lattice_mesh table.frequency.n).positions ≤ length positions.old }
     requires starts { length (lattice_mesh table.frequency.n).starts ≤ length starts.old }
@@ -56,7 +56,7 @@ pub fn fill_vertices(table: IdTable, positions: &mut [f64], starts: &mut [u32])
 {
     let frequency = table.frequency;
     let n = frequency.n;
-    // Counted beside the three loops: to work a point's place out each time would take products.
+    // Counted as in `fill_ids`: by `ids.iter()` each round would have a case for a missing id, and none is missing.
     let mut place = 0;
     let mut vertex: usize = 0;
     let mut start: u32 = 0;

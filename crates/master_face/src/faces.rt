@@ -1,17 +1,16 @@
 // The twenty master faces, worked out beforehand: normalising alone would cost a query more than all the rest.
 // Each is proved to be what `MasterFace::new` makes of the face's corners.
-ghost use Rattle.std.specs.Prelude.{◌≡◌, ◌<◌};
+ghost use Rattle.std.specs.Prelude.{◌≡◌};
 ghost use Rattle.master_face.specs.MasterFace.{master_face_of};
 
 use super::{Gram, MasterFace, Three};
+use icosahedron::Face;
 use vector::Vector3;
 
-// The master face of an index.
-pub fn master_face_of(index: usize) -> MasterFace
-    requires { index < 20 }
-    ensures { result ≡ master_face_of index }
+pub fn master_face_of(face: Face) -> MasterFace
+    ensures { result ≡ master_face_of face.index }
 {
-    FACES[index]
+    FACES[face.index]
 }
 
 static FACES: [MasterFace; 20] = [

@@ -8,7 +8,7 @@ use lib.Dec.{leb, eqb}
 use lib.ListN.{length, get_or}
 use lib.Ieee.{Float}
 use borrow.Author.Tests.{leb-true, eqb-true, lt-ltb, le-leb, eq-eqb}
-use Rattle.booleans.proofs.Booleans.{and_split, and_intro}
+use Rattle.std.proofs.lemmas.Bool.{and_parts, and_from}
 use Rattle.sequences.specs.Starts.{CompressedRows}
 use Rattle.sequences.proofs.Range.{all_below_at, all_below_intro}
 use Rattle.std.specs.Prelude.{Ok}
@@ -49,7 +49,7 @@ module _ (n : ℕ) (starts entries : List ℕ) where
       let ascend = fall_row_passed n starts _ (eqb-true _ _ counted.0) span.1 in
       let limit = row_passed (lists_limited n starts) Starts _ ascend.1 in
       let ids = row_passed (ids_below n entries) Id _ limit.1 in
-      let ends = and_split (eqb (get_or starts 0 0) 0) _ span.0 in
+      let ends = and_parts (eqb (get_or starts 0 0) 0) _ span.0 in
       record {
         rows = record {
           size = eqb-true _ _ counted.0;
@@ -68,7 +68,7 @@ module _ (n : ℕ) (starts entries : List ℕ) where
 
     starts_span_lem : starts_span n starts entries ≡ true
     unfolding starts_span
-    starts_span_lem = and_intro _ _ (eq-eqb _ _ facts.rows.first) (eq-eqb _ _ facts.rows.last)
+    starts_span_lem = and_from _ _ (eq-eqb _ _ facts.rows.first) (eq-eqb _ _ facts.rows.last)
 
     starts_ascend_lem : starts_ascend n starts ≡ true
     unfolding starts_ascend
@@ -90,13 +90,10 @@ module _ (n : ℕ) (starts entries : List ℕ) where
 pub positions_facts : (positions : List Float) → positions_fit positions ≡ true → (length positions ≡ vertex_count positions * 3) × (1 ≤ vertex_count positions) × (vertex_count positions ≤ greatest_count)
 unfolding positions_fit
 positions_facts positions h =
-    let whole = and_split (eqb (length positions % 3) 0) _ h in
-    let range = and_split (leb 1 (vertex_count positions)) (leb (vertex_count positions) greatest_count) whole.1 in
+    let whole = and_parts (eqb (length positions % 3) 0) _ h in
+    let range = and_parts (leb 1 (vertex_count positions)) (leb (vertex_count positions) greatest_count) whole.1 in
     let rest : length positions % 3 ≡ 0 = eqb-true _ _ whole.0 in
     (omega arith, leb-true _ _ range.0, leb-true _ _ range.1)
-
-pub positions_few : (positions : List Float) → positions_fit positions ≡ true → vertex_count positions ≤ greatest_count
-positions_few positions h = (positions_facts positions h).2
 
 pub adjacency_facts : (m : Mesh) → adjacency_rows m ≡ Ok tt → AdjacencyFacts m
 unfolding adjacency_rows
@@ -128,7 +125,7 @@ module _ (m : Mesh) (facts : AdjacencyFacts m) where
   unfolding positions_fit
   positions_fit_lem =
       let rest : length m.positions % 3 ≡ 0 = omega (arith, facts.three_each) in
-      and_intro _ _ (eq-eqb _ _ rest) (and_intro _ _ (le-leb _ _ facts.some) (le-leb _ _ facts.few))
+      and_from _ _ (eq-eqb _ _ rest) (and_from _ _ (le-leb _ _ facts.some) (le-leb _ _ facts.few))
 
   pub adjacency_passed : adjacency_rows m ≡ Ok tt
   unfolding adjacency_rows

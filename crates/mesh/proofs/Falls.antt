@@ -1,7 +1,7 @@
 -- The first start that falls: `fall_first`, `fall_none`, and the row that names it. Assumes nothing.
-use Prim.Native.Nat.{ℕ, zero, suc, ◌-◌, ◌≤◌, ◌<◌}
+use Prim.Native.Nat.{ℕ, suc, ◌+◌, ◌-◌, ◌≤◌, ◌<◌}
 use native.Mathlib.Omega.{arith}
-use native.Mathlib.Numerals.{unary_clauses}
+use native.Mathlib.Numerals.{add-one}
 use mathlib.Core.Path.{◌≡◌, refl, sym, ap, ◌∙◌}
 use mathlib.Core.Bool.{Bool, true, false}
 use mathlib.Core.List.{List}
@@ -82,16 +82,16 @@ module _ (starts : List ℕ) where
             omega (arith, pair_of i some);
       })
 
--- what a search for the first fall finds
+-- what a search for the first two neighbours that fall finds
 pub fall_found : (starts : List ℕ) (r : Option ℕ)
-    → MatchOption r ((i : ℕ) → 1 ≤ i → i < length starts → get_or starts (i - 1) 0 ≤ get_or starts i 0)
-    (λ index. (1 ≤ index) × (index < length starts) × (get_or starts index 0 < get_or starts (index - 1) 0) × ((i : ℕ) → 1 ≤ i → i < index → get_or starts (i - 1) 0 ≤ get_or starts i 0))
+    → MatchOption r ((k : ℕ) → k + 2 ≤ length starts → get_or starts k 0 ≤ get_or starts (k + 1) 0)
+    (λ index. (k : ℕ) × (index ≡ k + 1) × (k + 2 ≤ length starts) × (get_or starts (k + 1) 0 < get_or starts k 0) × ((j : ℕ) → j < k → get_or starts j 0 ≤ get_or starts (j + 1) 0))
     → r ≡ falling_start starts
-fall_found starts None none = sym (nowhere_falls starts (all_below_intro (not_falling starts) (length starts - 1) (λ v lt. le-leb _ _ (simp unary_clauses at (none (suc v) (omega arith) (omega arith))))))
-fall_found starts (Some zero) found = absurd (let e = found.0 in let z : ⊥ = omega arith in z)
-fall_found starts (Some (suc i)) found =
-    let falls : get_or starts (suc i) 0 < get_or starts i 0 = simp unary_clauses at found.2 in
-    sym (falls_behind starts i found.1 (all_below_intro (not_falling starts) i (λ v lt. le-leb _ _ (simp unary_clauses at (found.3 (suc v) (omega arith) (omega arith))))) (lt-leb _ _ falls))
+fall_found starts None none = sym (nowhere_falls starts (all_below_intro (not_falling starts) (length starts - 1) (λ v lt. le-leb _ _ (rw add-one at (none v (omega arith))))))
+fall_found starts (Some index) found =
+    let k = found.0 in
+    let e : index ≡ suc k = omega (arith, found.1) in
+    ap Some e ∙ sym (falls_behind starts k (omega (arith, found.2)) (all_below_intro (not_falling starts) k (λ v lt. le-leb _ _ (rw add-one at (found.4 v lt)))) (lt-leb _ _ (rw add-one at found.3)))
 
 -- ---- row 18 and its index, where the starts have their length
 module _ (n : ℕ) (starts : List ℕ) (size : length starts ≡ suc n) where

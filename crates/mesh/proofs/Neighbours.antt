@@ -1,16 +1,20 @@
--- Laws of the neighbour lists of a mesh that rows 2 to 4 let pass. Assumes nothing.
+-- Laws of the neighbour lists of a mesh that rows 2 to 4 let pass; `has_list` where starts and entries are compressed rows. Assumes nothing.
 use Prim.Native.Nat.{ℕ, suc, ◌+◌, ◌-◌, ◌≤◌, ◌<◌}
 use native.Mathlib.Omega.{arith}
 use native.Mathlib.Numerals.{add-one}
-use mathlib.Core.Path.{◌≡◌, sym, ◌∙◌}
-use mathlib.Core.List.{Memᴰ}
-use lib.ListN.{length, get_or, take, drop}
-use Rattle.sequences.specs.Starts.{part, concatenate}
-use Rattle.sequences.proofs.Tabulate.{member_get_d, slice_as_take}
+use mathlib.Core.Path.{◌≡◌}
+use mathlib.Core.List.{List, Memᴰ}
+use lib.ListN.{length, get_or}
+use Rattle.sequences.specs.Starts.{concatenate, CompressedRows}
+use Rattle.sequences.proofs.Tabulate.{member_get_d}
 use Rattle.sequences.proofs.Starts.{part_length, part_member, rows_entries, rows_within}
-use Rattle.mesh.specs.Mesh.{Mesh, count, neighbours}
+use Rattle.mesh.specs.Mesh.{Mesh, count, neighbours, HasList}
 use Rattle.mesh.specs.Rows.{longest_list}
 use Rattle.mesh.proofs.Facts.{AdjacencyFacts}
+
+-- compressed rows have a list of each vertex
+pub has_list : {n : ℕ} {starts entries : List ℕ} → CompressedRows n starts entries → (v : ℕ) → v < n → HasList starts entries v
+has_list {n} {starts} {entries} rows v lt = record { there = omega (arith, rows.size); ascends = rw add-one (rows.ascend v lt); within = rows_within n starts entries rows (v + 1) (omega arith) }
 
 module _ (m : Mesh) (facts : AdjacencyFacts m) where
   -- every neighbour is a vertex
@@ -30,11 +34,3 @@ module _ (m : Mesh) (facts : AdjacencyFacts m) where
   pub entries_of_neighbours : concatenate (count m) (neighbours m) ≡ m.entries
   unfolding neighbours
   entries_of_neighbours = rows_entries (count m) m.starts m.entries facts.rows 0
-
-  -- where the list stands among the entries, and that it is what is read there
-  pub list_inside : (v : ℕ) → v < count m → (v + 1 < length m.starts) × (get_or m.starts v 0 ≤ get_or m.starts (v + 1) 0) × (get_or m.starts (v + 1) 0 ≤ length m.entries)
-  list_inside v lt = (omega (arith, facts.rows.size), rw add-one (facts.rows.ascend v lt), rows_within _ _ _ facts.rows (v + 1) (omega arith))
-
-pub list_read : (m : Mesh) (v : ℕ) → take (get_or m.starts (v + 1) 0 - get_or m.starts v 0) (drop (get_or m.starts v 0) m.entries) ≡ neighbours m v
-unfolding neighbours part
-list_read m v = sym (slice_as_take (get_or m.starts v 0) (get_or m.starts (v + 1) 0) m.entries) ∙ rw (add-one v)

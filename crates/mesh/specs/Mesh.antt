@@ -1,5 +1,5 @@
 -- A mesh: "positions (f64, three a vertex), list starts (u32, count + 1) and entries (u16)" (document 01). Definitions only.
-use Rattle.std.specs.Prelude.{ℕ, ◌+◌, ◌*◌, ◌/◌, List, length, get_or, Float}
+use Rattle.std.specs.Prelude.{ℕ, ◌+◌, ◌*◌, ◌/◌, ◌≤◌, ◌<◌, List, length, get_or, Float}
 use Rattle.std.specs.Float.{nan}
 use Rattle.sequences.specs.Starts.{part}
 use Rattle.vector.specs.declared.Vector3.{Vector3}
@@ -25,6 +25,12 @@ position_of positions v = vector (get_or positions (v * 3) nan) (get_or position
 -- The neighbour list of the vertex v, in its stored order.
 unfoldable pub neighbours : Mesh → ℕ → List ℕ
 neighbours m v = part m.starts m.entries v
+
+-- Starts and entries have a list of the vertex v: it begins no later than it ends, and ends within the entries.
+pub record HasList (starts entries : List ℕ) (v : ℕ) : Type 0 where
+  pub there : v + 1 < length starts
+  pub ascends : get_or starts v 0 ≤ get_or starts (v + 1) 0
+  pub within : get_or starts (v + 1) 0 ≤ length entries
 
 -- Three lent slices as a mesh.
 abbrev pub mesh_of : List Float → List ℕ → List ℕ → Mesh

@@ -46,7 +46,7 @@ impl<'a> Mesh<'a> {
         })
     }
 
-    // How many vertices it has.
+    // How many vertices it has. `rows`, here and below, tells callers the invariant: a model shows them its value alone.
     pub fn count(&self) -> usize
         ensures counted { result ≡ count self.now }
         ensures rows { adjacency_rows self.now ≡ Ok tt }
@@ -74,13 +74,11 @@ impl<'a> Mesh<'a> {
         requires { vertex < count self.now }
         ensures { result.now ≡ neighbours self.now vertex }
     {
-        let starts = self.starts;
-        let start = starts[vertex] as usize;
-        let end = starts[vertex + 1] as usize;
-        &self.entries[start..end]
+        crate::list_of(self.starts, self.entries, vertex)
     }
 
-    // Row 5 behind rows 2 to 4.
+    // Row 5 behind rows 2 to 4. By vertex, here and below: a position is three numbers and a list lies between two starts, so that no slice
+    // has one element a vertex.
     pub fn check_positions(&self) -> Result<(), Refusal>
         ensures { result ≡ mesh_rows self.now }
     {

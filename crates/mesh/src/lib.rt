@@ -1,12 +1,14 @@
 // Rows 2 to 6 of document 01's table, with rows 17 and 18 of W-209: what an operation asks of the mesh that it is lent, and of a permutation
-// of its ids. The call that reads whether the neighbour lists ascend (W-208).
+// of its ids. The call that reads whether the neighbour lists ascend (W-208). Positions, starts and entries stand apart, as C lends them:
+// `Mesh` holds the three once they have passed.
 #![tactic(auto)]
 
 mod checked;
 
 ghost use Rattle.std.specs.Prelude.{◌≡◌, true, suc, ◌*◌, ◌+◌, ◌-◌, ◌≤◌, ◌<◌, length, None};
 ghost use Rattle.sequences.specs.Permutation.{is_permutation};
-ghost use Rattle.mesh.specs.Mesh.{mesh_of, vertex_count, position_of};
+ghost use Rattle.sequences.specs.Starts.{part};
+ghost use Rattle.mesh.specs.Mesh.{mesh_of, vertex_count, position_of, HasList};
 ghost use Rattle.mesh.specs.Rows.{greatest_count, positions_fit, starts_counted, starts_span, falling_start, lists_limited, ids_below, list_rows, adjacency_rows, mesh_rows};
 ghost use Rattle.mesh.specs.Mark.{mark_outcome, mark_ascending};
 
@@ -38,6 +40,18 @@ pub fn position(positions: &[f64], vertex: usize) -> Vector3
     )
 }
 
+// The list of a vertex, from its start to the next one.
+#[inline(always)]
+#[tactic(auto, using(sequences::proofs::Tabulate::slice_as_take), unfolding(sequences::specs::Starts::part))]
+pub fn list_of<'a>(starts: &[u32], entries: &'a [u16], vertex: usize) -> &'a [u16]
+    requires { HasList starts.now entries.now vertex }
+    ensures { result.now ≡ part starts.now entries.now vertex }
+{
+    let start = starts[vertex] as usize;
+    let end = starts[vertex + 1] as usize;
+    &entries[start..end]
+}
+
 // Row 2.
 #[tactic(auto, unfolding(crate::specs::Rows::positions_fit))]
 pub fn positions_fit(positions: &[f64]) -> bool
@@ -50,10 +64,9 @@ pub fn positions_fit(positions: &[f64]) -> bool
 // Row 3: the starts have their length.
 #[tactic(auto, unfolding(crate::specs::Rows::starts_counted))]
 fn starts_counted(count: usize, starts: &[u32]) -> bool
-    requires { count ≤ greatest_count }
     ensures { result ≡ starts_counted count starts.now }
 {
-    starts.len() == count + 1
+    starts.len().checked_sub(1) == Some(count)
 }
 
 // Row 17: the starts begin at 0 and end at the entry count.
@@ -69,7 +82,10 @@ fn starts_span(count: usize, starts: &[u32], entries: &[u16]) -> bool
 pub fn falling_start(starts: &[u32]) -> Option<usize>
     ensures { result ≡ falling_start starts.now }
 {
-    (1..starts.len()).find(|&i| starts[i] < starts[i - 1])
+    starts
+        .array_windows::<2>()
+        .position(|[before, start]| start < before)
+        .map(|place| place + 1)
 }
 
 // Row 3: no neighbour list is over 32.
@@ -78,24 +94,23 @@ fn lists_limited(starts: &[u32]) -> bool
     ensures { result ≡ lists_limited (length starts.now - 1) starts.now }
 {
     starts
-        .windows(2)
-        .all(|pair| pair[1] - pair[0] <= LONGEST_LIST)
+        .array_windows::<2>()
+        .all(|[start, next]| next - start <= LONGEST_LIST)
 }
 
 // Row 4. The greatest id decides: a loop that is left nowhere but at its end takes several ids at a time.
 pub fn ids_below(count: usize, ids: &[u16]) -> bool
     ensures { result ≡ ids_below count ids.now }
 {
-    match ids.iter().copied().max() {
-        None => true,
-        Some(greatest) => (greatest as usize) < count,
-    }
+    ids.iter()
+        .copied()
+        .max()
+        .is_none_or(|greatest| (greatest as usize) < count)
 }
 
 // Rows 3 and 4, 17 and 18 among them, of the neighbour lists of so many vertices.
 #[tactic(auto, unfolding(crate::specs::Rows::list_rows, crate::specs::Rows::starts_counted))]
 pub fn check_lists(count: usize, starts: &[u32], entries: &[u16]) -> Result<(), Refusal>
-    requires { count ≤ greatest_count }
     ensures { result ≡ list_rows count starts.now entries.now }
 {
     if !starts_counted(count, starts) {
@@ -116,8 +131,8 @@ pub fn check_lists(count: usize, starts: &[u32], entries: &[u16]) -> Result<(), 
     Ok(())
 }
 
-// Rows 2 to 4, which every operation on a mesh begins with.
-#[tactic(auto, using(crate::proofs::Facts::positions_few), unfolding(crate::specs::Rows::adjacency_rows))]
+// Rows 2 to 4, which every operation on a mesh begins with. This and `check_mesh` are kept for callers that want the rows alone.
+#[tactic(auto, unfolding(crate::specs::Rows::adjacency_rows))]
 pub fn check_adjacency(positions: &[f64], starts: &[u32], entries: &[u16]) -> Result<(), Refusal>
     ensures { result ≡ adjacency_rows (mesh_of positions.now starts.now entries.now) }
 {

@@ -23,7 +23,8 @@ pub fn read_full<R: Read + Drop>(mut input: R, text: &mut [u8]) -> usize
     done
 }
 
-// How many bytes were read. A file that is missing has none, and one that is too long is cut.
+// How many bytes were read. A file that is missing is an empty text, which shows in what a program prints of it.
+// One that is too long is cut.
 pub fn read_file(files: &impl Files, name: &str, text: &mut [u8]) -> usize
     ensures in_bounds { result ≤ length text.new }
     ensures prefix { result ≡ length (take result text.new) }

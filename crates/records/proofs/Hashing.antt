@@ -1,8 +1,7 @@
 -- Laws of the hash: of one number's bytes, and of a list's. Assumes nothing.
-use Rattle.std.proofs.Common.{ℕ, suc, ◌+◌, ◌-◌, ◌/◌, ◌%◌, ◌≤◌, ◌<◌, ◌≡◌, List, [], ◌∷◌, ◌++◌, length, map, get_or, drop, refl, sym, ap, ◌∙◌, arith, add-one, drop-cons}
+use Rattle.std.proofs.Common.{ℕ, suc, ◌+◌, ◌-◌, ◌/◌, ◌%◌, ◌≤◌, ◌<◌, ◌≡◌, List, [], ◌∷◌, ◌++◌, length, map, get_or, drop, refl, sym, ap, ◌∙◌, arith}
 use lib.ListN.{drop_of_length-le}
-use Rattle.std.proofs.lemmas.List.{length-map}
-use Rattle.sequences.proofs.Tabulate.{get_d_map}
+use Rattle.std.proofs.lemmas.List.{length-map, get_or-map, drop_more}
 use Rattle.records.specs.Hash.{hashed_byte, hashed_bytes, bytes_of, bytes_of_each}
 
 -- one byte more of a number
@@ -28,9 +27,9 @@ module _ {A : Type 0} (word_of : A → ℕ) (size : ℕ) (list : List A) where
   pub hash_next : (i hash : ℕ) {x : A} → i < length list → x ≡ get_or list i x → rest_hashed (i + 1) (hashed_bytes hash (bytes_of size (word_of x))) ≡ rest_hashed i hash
   unfolding bytes_of_each
   hash_next i hash {x} lt is =
-      let word : get_or (map word_of list) i 0 ≡ word_of x = get_d_map word_of list i x 0 lt ∙ ap word_of (sym is) in
+      let word : get_or (map word_of list) i 0 ≡ word_of x = get_or-map word_of list i x 0 lt ∙ ap word_of (sym is) in
       let below : i < length (map word_of list) = simp length-map lt in
-      rw (add-one, drop-cons (map word_of list) i 0 below, word) (sym (hashed_append hash (bytes_of size (word_of x)) (bytes_of_each size (drop (suc i) (map word_of list)))))
+      rw (drop_more (map word_of list) i 0 below, word) (sym (hashed_append hash (bytes_of size (word_of x)) (bytes_of_each size (drop (i + 1) (map word_of list)))))
 
   pub hash_all : (i hash : ℕ) → length list ≤ i → rest_hashed i hash ≡ hash
   unfolding bytes_of_each hashed_bytes

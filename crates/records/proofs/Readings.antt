@@ -1,15 +1,24 @@
 -- Laws of lists of words: what is read of a list so far, and what is left of one to compare. Assumes nothing.
-use Rattle.std.proofs.Common.{ℕ, zero, suc, ◌+◌, ◌≤◌, ◌<◌, ◌≡◌, List, Result, Ok, Err, length, map, get_or, drop, refl, sym, ap, ◌∙◌, arith, add-one, drop-cons, get_or-set_other, get_or-set_same}
+use Rattle.std.proofs.Common.{ℕ, zero, suc, ◌+◌, ◌≤◌, ◌<◌, ◌≡◌, List, [], ◌∷◌, Result, Ok, Err, length, map, get_or, drop, refl, sym, ap, ◌∙◌, arith, add-one, get_or-set_other, get_or-set_same}
 use native.Mathlib.Decide.{dec_lt}
+use Rattle.std.specs.List.{FoldsTo}
 use Rattle.sequences.proofs.Range.{last_or_below}
 use mathlib.Core.Logic.{◌⊎◌, inl, inr}
 use lib.ListN.{set, length-set, drop_of_length-le}
-use Rattle.std.proofs.lemmas.List.{length-map}
-use Rattle.sequences.proofs.Tabulate.{tabulate_unique, get_d_map}
+use Rattle.std.proofs.lemmas.List.{length-map, get_or-map, drop_more}
+use Rattle.sequences.proofs.Tabulate.{tabulate_unique}
 use Rattle.records.specs.declared.reader.Fault.{Fault}
 use Rattle.records.specs.At.{At}
 use Rattle.records.specs.Words.{Reading, reading, found, failed, go_on, and_then, word_at_most, element_read, expected}
 use Rattle.records.specs.Lists.{expected_each, behind_words, number_or_0, number_behind, ListRead}
+
+-- ---- written
+-- What writes the same at each step has written it everywhere.
+module _ {F A : Type 0} {steps : F → A → F → Type 0} {value : A} (same : (before : F) (x : A) (after : F) → steps before x after → x ≡ value) where
+  pub written_everywhere : (list : List A) (first last : F) → FoldsTo steps first list last → (k : ℕ) (d : A) → k < length list → get_or list k d ≡ value
+  written_everywhere [] first last folded k d lt = absurd (omega arith)
+  written_everywhere (x ∷ list) first last folded zero d lt = same _ _ _ folded.1
+  written_everywhere (x ∷ list) first last folded (suc k) d lt = written_everywhere list _ _ folded.2 k d (omega arith)
 
 -- ---- read
 module _ {A : Type 0} (most : ℕ) (of_word : ℕ → A) (from : At) where
@@ -121,9 +130,9 @@ module _ {A : Type 0} (word_of : A → ℕ) (list : List A) where
       rest_first : rest_expected i from ≡ and_then (expected (word_of x) from) (λ _ behind. rest_expected (i + 1) behind)
       unfolding expected_each
       rest_first =
-          let word : get_or (map word_of list) i 0 ≡ word_of x = get_d_map word_of list i x 0 lt ∙ ap word_of (sym is) in
+          let word : get_or (map word_of list) i 0 ≡ word_of x = get_or-map word_of list i x 0 lt ∙ ap word_of (sym is) in
           let below : i < length (map word_of list) = simp length-map lt in
-          rw (add-one, drop-cons (map word_of list) i 0 below, word) refl
+          rw (drop_more (map word_of list) i 0 below, word) refl
 
       pub each_next : {behind : At} → found tt behind ≡ expected (word_of x) from → rest_expected (i + 1) behind ≡ rest_expected i from
       each_next e = ap (λ (first : Reading (Unit {0})). and_then first (λ _ at. rest_expected (i + 1) at)) e ∙ sym rest_first

@@ -1,8 +1,7 @@
 -- The words of a record (crates/replay/README.md, "Form"). A text is a list of bytes (ASCII). Definitions only.
-use Rattle.std.specs.Prelude.{ℕ, ◌+◌, ◌-◌, ◌*◌, Bool, not, ◌&&◌, cond, List, [], ◌∷◌, Option, None, Some, Result, Ok, Err, ltb, leb, eqb, length, get_or, drop}
+use Rattle.std.specs.Prelude.{ℕ, ◌+◌, ◌-◌, ◌*◌, Bool, not, ◌&&◌, cond, List, [], ◌∷◌, Option, None, Some, option_map, Result, Ok, Err, ltb, leb, eqb, length, get_or, drop}
 use Rattle.std.specs.List.{position}
 use Rattle.std.specs.Option.{unwrap_or}
-use Rattle.records.specs.declared.word.Word.{Word}
 use Rattle.records.specs.declared.reader.Fault.{Fault}
 use Rattle.records.specs.declared.reader.Fault.TheVariants.{Malformed, TooGreat, Different, TooMany}
 use Rattle.records.specs.At.{At, at}
@@ -20,6 +19,10 @@ byte_at text place = get_or text place 0
 -- ---- tokens
 
 -- A number that a text has, and where the text goes on behind it.
+pub record Word : Type 0 where
+  pub value : ℕ
+  pub end : ℕ
+
 abbrev pub word_to : ℕ → ℕ → Word
 word_to value end = record { value = value; end = end }
 
@@ -56,6 +59,10 @@ nan_pattern = 0x7ff8000000000000
 -- A word without what follows it: `nan`, or digits.
 unfoldable pub token_at : List ℕ → ℕ → Option Word
 token_at text start = cond (spells_nan text start) (Some (word_to nan_pattern (start + 3))) (digits_at text start)
+
+-- A word's number, and the text behind the word.
+abbrev pub split_behind : List ℕ → Option Word → Option (ℕ × List ℕ)
+split_behind text word = option_map (λ w. (w.value, drop w.end text)) word
 
 -- ---- what a reader takes
 
@@ -94,6 +101,12 @@ unfoldable pub delimited : At → Word → Reading ℕ
 delimited from word =
     cond (eqb (byte_at from.text word.end) line_feed) (found word.value (at from.text word.end))
     (cond (eqb (byte_at from.text word.end) space && line_goes_on from.text (word.end + 1)) (found word.value (at from.text (word.end + 1))) (failed Malformed from))
+
+-- The same by the text behind a token: what the reader goes on with.
+unfoldable pub next_text : List ℕ → Option (List ℕ)
+next_text behind =
+    cond (eqb (byte_at behind 0) line_feed) (Some behind)
+    (cond (eqb (byte_at behind 0) space && line_goes_on (drop 1 behind) 0) (Some (drop 1 behind)) None)
 
 -- The next word. The reader stays before one that is malformed.
 unfoldable pub next_word : At → Reading ℕ

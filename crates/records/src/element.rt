@@ -61,7 +61,7 @@ impl Element for bool {
     const MOST: u64 = 1;
 
     fn word(self) -> u64 {
-        if self { 1 } else { 0 }
+        u64::from(self)
     }
 
     fn from_word(word: u64) -> bool {
@@ -85,12 +85,12 @@ impl Element for u8 {
 
     ghost comes_back = { λ x h. refl };
 
-    const BYTES: u32 = 1;
+    const BYTES: u32 = u8::BITS / 8;
 
-    const MOST: u64 = 0xff;
+    const MOST: u64 = u8::MAX as u64;
 
     fn word(self) -> u64 {
-        self as u64
+        u64::from(self)
     }
 
     fn from_word(word: u64) -> u8 {
@@ -113,12 +113,12 @@ impl Element for u16 {
 
     ghost comes_back = { λ x h. refl };
 
-    const BYTES: u32 = 2;
+    const BYTES: u32 = u16::BITS / 8;
 
-    const MOST: u64 = 0xffff;
+    const MOST: u64 = u16::MAX as u64;
 
     fn word(self) -> u64 {
-        self as u64
+        u64::from(self)
     }
 
     fn from_word(word: u64) -> u16 {
@@ -141,12 +141,12 @@ impl Element for u32 {
 
     ghost comes_back = { λ x h. refl };
 
-    const BYTES: u32 = 4;
+    const BYTES: u32 = u32::BITS / 8;
 
-    const MOST: u64 = 0xffff_ffff;
+    const MOST: u64 = u32::MAX as u64;
 
     fn word(self) -> u64 {
-        self as u64
+        u64::from(self)
     }
 
     fn from_word(word: u64) -> u32 {
@@ -169,9 +169,9 @@ impl Element for u64 {
 
     ghost comes_back = { λ x h. refl };
 
-    const BYTES: u32 = 8;
+    const BYTES: u32 = u64::BITS / 8;
 
-    const MOST: u64 = 0xffff_ffff_ffff_ffff;
+    const MOST: u64 = u64::MAX;
 
     fn word(self) -> u64 {
         self

@@ -3,6 +3,7 @@
 #![tactic(auto)]
 
 mod element;
+mod form;
 mod hash;
 mod reader;
 mod word;
@@ -11,6 +12,7 @@ ghost use Rattle.std.specs.Prelude.{◌≡◌};
 ghost use Rattle.std.specs.List.{list_all};
 
 pub use element::Element;
+pub use form::{Hashes, ListForm, Words};
 pub use reader::{Fault, Reader};
 
 // Whether every place holds one value, by its type's own equality.

@@ -1,10 +1,11 @@
 // A line's words, taken from the left.
-ghost use Rattle.std.specs.Prelude.{ℕ, ◌≡◌, ◌<◌, ◌≤◌, length, map, slice_index_or, IfOk};
+ghost use Rattle.std.specs.Prelude.{◌≡◌, ◌≤◌, length, map, IfOk};
 ghost use Rattle.records.specs.At.{At, at};
 ghost use Rattle.records.specs.Words.{reading, next_word, word_at_most, element_read, expected, finished, line_end};
-ghost use Rattle.records.specs.Lists.{expected_list, ListRead};
+ghost use Rattle.records.specs.Lists.{expected_each, ListRead};
+ghost use Rattle.records.specs.Hash.{hash_of};
 
-use crate::word::{line_end, line_goes_on, token};
+use crate::word::{line_goes_on, line_length, next_text, token};
 use crate::{Element, hash};
 use std::marker::Model;
 
@@ -21,65 +22,44 @@ pub enum Fault {
     TooMany,
 }
 
-// A text, and the place in it of the next word.
+// A text, and what is left of it.
 #[derive(Drop)]
 pub struct Reader<'a> {
     text: &'a [u8],
-    place: usize,
+    rest: &'a [u8],
 }
 
 impl<'a> Model for Reader<'a> {
-    ghost use Rattle.std.specs.Prelude.{◌≤◌, length};
-    ghost use Rattle.records.specs.At.{At, at};
+    ghost use Rattle.records.specs.At.{At, at, place_before, IsRest};
 
     ghost Value = { At };
 
-    ghost view = { λ r. at r.text.now r.place };
+    ghost view = { λ r. at r.text.now (place_before r.text.now r.rest.now) };
 
-    ghost invariant = { λ r. r.place ≤ length r.text.now };
-}
-
-// Every place holds the value of the word 0. No `fill`: it asks that a `clone` cannot fail, which an element's type does not promise.
-fn clear<T: Element>(list: &mut [T])
-    ensures { (k : ℕ) (d : T) → k < length list.old → slice_index_or list.new k d ≡ T.of_word 0 }
-{
-    for x in list.iter_mut() {
-        *x = T::from_word(0);
-    }
+    ghost invariant = { λ r. IsRest r.text.now r.rest.now };
 }
 
 impl<'a> Reader<'a> {
     pub fn new(text: &'a [u8]) -> Self
         ensures { result ≡ at text.now 0 }
     {
-        Reader { text, place: 0 }
+        Reader { text, rest: text }
     }
 
     // The place in the text of the next word.
     pub fn place(&self) -> usize
         ensures { result ≡ self.now.place }
     {
-        self.place
+        self.text.len() - self.rest.len()
     }
 
     // The next word; the reader passes it, and the space that follows. A malformed word is not passed.
-    #[tactic(auto, unfolding(crate::specs::Words::next_word, crate::specs::Words::delimited))]
     fn take_word(&mut self) -> Result<u64, Fault>
         ensures { reading result self.new ≡ next_word self.old }
     {
-        let text = self.text;
-        let Some(word) = token(text, self.place) else {
-            return Err(Fault::Malformed);
-        };
-        if word.end >= text.len() {
-            return Err(Fault::Malformed);
-        }
-        match text[word.end] {
-            b'\n' => self.place = word.end,
-            b' ' if line_goes_on(text, word.end + 1) => self.place = word.end + 1,
-            _ => return Err(Fault::Malformed),
-        }
-        Ok(word.value)
+        let (number, behind) = token(self.rest).ok_or(Fault::Malformed)?;
+        self.rest = next_text(behind).ok_or(Fault::Malformed)?;
+        Ok(number)
     }
 
     // The next word, its number at most `most`.
@@ -135,32 +115,36 @@ impl<'a> Reader<'a> {
     pub fn take_list<T: Element>(&mut self, list: &mut [T]) -> Result<(), Fault>
         ensures { ListRead T.MOST T.of_word self.old (length list.old) (reading result self.new) list.new }
     {
-        clear(list);
+        list.fill_with(|| T::from_word(0));
         for x in list.iter_mut() {
             *x = self.take()?;
         }
         Ok(())
     }
 
-    // A word for each element, or one for the hash of all.
-    #[tactic(auto, unfolding(crate::specs::Lists::expected_list))]
-    pub fn expect_list<T: Element>(&mut self, list: &[T], hashed: bool) -> Result<(), Fault>
-        ensures { reading result self.new ≡ expected_list hashed T.BYTES (map T.word_of list.now) self.old }
+    // A word for each element.
+    pub fn expect_list<T: Element>(&mut self, list: &[T]) -> Result<(), Fault>
+        ensures { reading result self.new ≡ expected_each (map T.word_of list.now) self.old }
     {
-        if hashed {
-            return self.expect_word(hash::hash(list));
-        }
         for x in list {
             self.expect(*x)?;
         }
         Ok(())
     }
 
+    // A word for the hash of all elements.
+    pub fn expect_hash<T: Element>(&mut self, list: &[T]) -> Result<(), Fault>
+        ensures { reading result self.new ≡ expected (hash_of T.BYTES (map T.word_of list.now)) self.old }
+    {
+        self.expect_word(hash::hash(list))
+    }
+
     // The line is read: no byte of it is left.
+    #[tactic(auto, using(crate::proofs::Tokens::line_left))]
     pub fn finish(&self) -> Result<(), Fault>
         ensures { result ≡ finished self.now }
     {
-        if line_goes_on(self.text, self.place) {
+        if line_goes_on(self.rest) {
             return Err(Fault::TooMany);
         }
         Ok(())
@@ -170,6 +154,6 @@ impl<'a> Reader<'a> {
     pub fn skip_line(&mut self)
         ensures { self.new ≡ at self.old.text (line_end self.old.text self.old.place) }
     {
-        self.place = line_end(self.text, self.place);
+        self.rest = &self.rest[line_length(self.rest)..];
     }
 }

@@ -1,86 +1,73 @@
-// The words of a line.
-ghost use Rattle.std.specs.Prelude.{◌≡◌, ◌<◌, ◌≤◌, length, IfSome};
-ghost use Rattle.records.specs.Words.{digit_value, digits_at, spells_nan, token_at, line_goes_on, line_feed_at, line_end};
-
-// A number that a text has, and where the text goes on behind it.
-#[derive(Clone, Copy, Debug, PartialEq, Eq)]
-pub struct Word {
-    pub value: u64,
-    pub end: usize,
-}
+// The words of a line: what a text begins with, and the text behind it.
+ghost use Rattle.std.specs.Prelude.{◌≡◌, ◌<◌, ◌≤◌, length, drop, option_map, IfSome};
+ghost use Rattle.records.specs.Words.{byte_at, digit_value, digits_at, token_at, split_behind, line_goes_on, next_text, line_feed_at, line_length};
 
 // Every NaN is this pattern here, since the bits of a NaN are free.
 pub const NAN: u64 = 0x7ff8_0000_0000_0000;
 
+// The digit that a text begins with, 0 to 15, and the text behind it.
 #[tactic(auto, unfolding(crate::specs::Words::digit_value))]
-fn digit(byte: u8) -> Option<u8>
-    ensures value { result ≡ digit_value byte }
-    ensures below_16 { IfSome result (λ digit. digit < 16) }
+fn digit(text: &[u8]) -> Option<(u8, &[u8])>
+    ensures value { option_map (λ digit. digit.0) result ≡ digit_value (byte_at text.now 0) }
+    ensures behind { IfSome result (λ digit. digit.1.now ≡ drop 1 text.now) }
+    ensures below_16 { IfSome result (λ digit. digit.0 < 16) }
 {
-    match byte {
-        b'0'..=b'9' => Some(byte - b'0'),
-        b'a'..=b'f' => Some(byte - b'a' + 10),
+    match text {
+        [byte @ b'0'..=b'9', behind @ ..] => Some((byte - b'0', behind)),
+        [byte @ b'a'..=b'f', behind @ ..] => Some((byte - b'a' + 10, behind)),
         _ => None,
     }
 }
 
-// The digits from a place on: 16 at most.
-fn digits(text: &[u8], start: usize) -> Option<Word>
-    requires { start ≤ length text.now }
-    ensures { result ≡ digits_at text.now start }
+// The number of the digits that a text begins with, 1 to 16 of them, and the text behind them.
+// By hand: `from_str_radix` wants a `&str` cut to the digits, and takes upper case, a sign and more digits too.
+fn digits(text: &[u8]) -> Option<(u64, &[u8])>
+    ensures { option_map (λ word. (word.0, word.1.now)) result ≡ split_behind text.now (digits_at text.now 0) }
 {
-    let mut value: u64 = 0;
-    // Counted here, since the loop is left at the first byte that is no digit.
-    let mut count: usize = 0;
-    for byte in &text[start..] {
-        let Some(next) = digit(*byte) else {
-            break;
-        };
-        if count == 16 {
+    let mut value = 0;
+    let mut rest = text;
+    while let Some((next, behind)) = digit(rest) {
+        if text.len() - rest.len() == 16 {
             return None;
         }
-        value = value * 16 + next as u64;
-        count += 1;
+        value = value * 16 + u64::from(next);
+        rest = behind;
     }
-    if count == 0 {
+    if rest.len() == text.len() {
         return None;
     }
-    Some(Word {
-        value,
-        end: start + count,
-    })
+    Some((value, rest))
 }
 
-// Whether `nan` stands at a place.
-#[tactic(auto, unfolding(crate::specs::Words::spells_nan))]
-fn spells_nan(text: &[u8], start: usize) -> bool
-    requires { start ≤ length text.now }
-    ensures { result ≡ spells_nan text.now start }
-{
-    text[start..].starts_with(b"nan")
-}
-
-// Digits, or `nan`.
+// The number of what a text begins with, digits or `nan`, and the text behind it.
 #[tactic(auto, unfolding(crate::specs::Words::token_at, crate::specs::Words::spells_nan))]
-pub fn token(text: &[u8], start: usize) -> Option<Word>
-    requires { start ≤ length text.now }
-    ensures { result ≡ token_at text.now start }
+pub fn token(text: &[u8]) -> Option<(u64, &[u8])>
+    ensures { option_map (λ word. (word.0, word.1.now)) result ≡ split_behind text.now (token_at text.now 0) }
 {
-    if spells_nan(text, start) {
-        return Some(Word {
-            value: NAN,
-            end: start + 3,
-        });
+    if let Some(behind) = text.strip_prefix(b"nan") {
+        return Some((NAN, behind));
     }
-    digits(text, start)
+    digits(text)
 }
 
-// Whether a line has a byte at a place.
+// Whether a line has a byte before its end.
 #[tactic(auto, unfolding(crate::specs::Words::line_goes_on))]
-pub fn line_goes_on(text: &[u8], at: usize) -> bool
-    ensures { result ≡ line_goes_on text.now at }
+pub fn line_goes_on(text: &[u8]) -> bool
+    ensures { result ≡ line_goes_on text.now 0 }
 {
-    at < text.len() && text[at] != b'\n'
+    text.first().is_some_and(|byte| *byte != b'\n')
+}
+
+// What a reader goes on with behind a word: the line feed, or what a space has behind it in the line.
+#[tactic(auto, unfolding(crate::specs::Words::next_text))]
+pub fn next_text(behind: &[u8]) -> Option<&[u8]>
+    ensures { option_map (λ next. next.now) result ≡ next_text behind.now }
+{
+    match behind {
+        [b'\n', ..] => Some(behind),
+        [b' ', next @ ..] if line_goes_on(next) => Some(next),
+        _ => None,
+    }
 }
 
 // How far the first line feed is, if there is one.
@@ -91,14 +78,10 @@ fn line_feed_at(text: &[u8]) -> Option<usize>
     text.iter().position(|byte| *byte == b'\n')
 }
 
-// The place of the line feed that ends the line from a place on; the text's length where there is none.
-pub fn line_end(text: &[u8], start: usize) -> usize
-    requires { start ≤ length text.now }
-    ensures place { result ≡ line_end text.now start }
+// How many bytes stand before the first line feed; all, where there is none.
+pub fn line_length(text: &[u8]) -> usize
+    ensures length { result ≡ line_length text.now }
     ensures within { result ≤ length text.now }
 {
-    match line_feed_at(&text[start..]) {
-        Some(length) => start + length,
-        None => text.len(),
-    }
+    line_feed_at(text).unwrap_or(text.len())
 }

@@ -1,4 +1,4 @@
-// Why a call is refused, and what a chain of checks found.
+// Why a call is refused.
 #![tactic(auto)]
 
 ghost use Rattle.std.specs.Prelude.{◌≡◌};

@@ -26,7 +26,8 @@ pub fn replay_integral(reader: &mut Reader) -> Result<(), Fault> {
     reader.expect(converted.how)
 }
 
-// Two bit patterns; 0 where the first is below the second in the total order, 1 where they are the same, 2 where it is above.
+// Two bit patterns; 0 where the first is below the second in the total order, 1 where they are the same, 2 where it is above: the file's
+// own numbers.
 pub fn replay_total_order(reader: &mut Reader) -> Result<(), Fault> {
     let x = reader.take()?;
     let y = reader.take()?;

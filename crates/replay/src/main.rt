@@ -2,8 +2,6 @@
 // records that are wrong on purpose, with those counted that were noticed.
 #![tactic(auto)]
 
-ghost use Rattle.std.specs.Prelude.{◌<◌, ◌^◌};
-
 mod arithmetic;
 mod lattices;
 mod locators;
@@ -14,12 +12,13 @@ mod renumberings;
 mod report;
 mod slices;
 
-use records::{Fault, Reader};
+use records::{Fault, Hashes, Reader, Words};
 use report::Tally;
 use std::io;
 use std::rt::Files;
 
-// What the records of a file hold: README.md says which words.
+// What the records of a file hold: README.md says which words. An enum and not a function pointer: a call through one asks for its `pre`,
+// which would have to be shown of each entry of the table.
 #[derive(Clone, Copy)]
 enum Kind {
     MulAdd,
@@ -117,8 +116,8 @@ fn replay_record(kind: Kind, reader: &mut Reader) -> Result<(), Fault> {
         Kind::TotalOrder => arithmetic::replay_total_order(reader),
         Kind::FaceChoice => queries::face_choice(reader),
         Kind::AnalyticQuery => queries::analytic_query(reader),
-        Kind::Lattice => lattices::lattice(reader, false),
-        Kind::LatticeHash => lattices::lattice(reader, true),
+        Kind::Lattice => lattices::lattice::<Words>(reader),
+        Kind::LatticeHash => lattices::lattice::<Hashes>(reader),
         Kind::GridHash => lattices::lattice_with_grid(reader),
         Kind::Mesh => meshes::mesh(reader),
         Kind::Renumbering => renumberings::renumbering(reader),
@@ -127,19 +126,12 @@ fn replay_record(kind: Kind, reader: &mut Reader) -> Result<(), Fault> {
     }
 }
 
-// Room for a text is a parameter: a proof about a number this large would list as many bytes.
-fn replay_in<const ROOM: usize>(rt: &(impl Files + Print), file: File) -> io::Result<()>
-    requires { ROOM < 2 ^ 32 }
-{
-    let mut text = [0u8; ROOM];
-    let size = reading::read_file(rt, file.name, &mut text);
-    let kind = file.kind;
-    let tally = Tally::default().count_lines(&text[..size], |reader| replay_record(kind, reader));
-    report::print_differences(rt, file.name, tally)
-}
-
 fn replay(rt: &(impl Files + Print), file: File) -> io::Result<()> {
-    replay_in::<524288>(rt, file)
+    let kind = file.kind;
+    let tally = Tally::of_file(rt, file.name, |text| {
+        Tally::default().count_lines(text, |reader| replay_record(kind, reader))
+    });
+    report::print_differences(rt, file.name, tally)
 }
 
 // ---- records that are wrong on purpose
@@ -157,9 +149,9 @@ fn replay_numbered(reader: &mut Reader) -> Result<(), Fault> {
 
 // A small buffer: the compiler may put it into main's frame, which lies under every other call's.
 fn replay_wrong(rt: &(impl Files + Print), name: &str) -> io::Result<()> {
-    let mut text = [0u8; 16384];
-    let size = reading::read_file(rt, name, &mut text);
-    let tally = Tally::default().count_lines(&text[..size], replay_numbered);
+    let tally = Tally::of_file_within::<16384, _>(rt, name, |text| {
+        Tally::default().count_lines(text, replay_numbered)
+    });
     report::print_noticed(rt, name, tally)
 }
 
@@ -168,8 +160,9 @@ fn main(rt: HostRuntime) -> io::Result<()> {
         replay(&rt, *file)?;
     }
     for name in &LOCATORS {
-        locators::replay_locators(&rt, name)?;
+        report::print_differences(&rt, name, locators::tally(&rt, name))?;
     }
     replay_wrong(&rt, "wrong_records")?;
-    locators::replay_wrong_locators(&rt, "wrong_locators")
+    let name = "wrong_locators";
+    report::print_noticed(&rt, name, locators::tally(&rt, name))
 }

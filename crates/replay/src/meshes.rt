@@ -3,10 +3,10 @@ ghost use Rattle.std.specs.Prelude.{◌<◌, ◌^◌};
 
 use crate::places::{F64_BEFORE, U16_BEFORE, U32_BEFORE};
 use crate::slices::{GridSlices, MeshSlices, cut, expect_built};
-use records::{Fault, Reader};
+use records::{Fault, ListForm, Reader, Words};
 
 // The lengths of order and queue; the refusal, the entries read, the index, and both slices after the call.
-pub fn walk(reader: &mut Reader, hashed: bool, mesh: &MeshSlices) -> Result<(), Fault> {
+pub fn walk<F: ListForm>(reader: &mut Reader, mesh: &MeshSlices) -> Result<(), Fault> {
     let mut order = [U32_BEFORE; 64002];
     let mut queue = [U32_BEFORE; 64002];
     let order = cut(reader, &mut order)?;
@@ -21,15 +21,14 @@ pub fn walk(reader: &mut Reader, hashed: bool, mesh: &MeshSlices) -> Result<(), 
     reader.expect(answer.refusal)?;
     reader.expect(answer.entries_read)?;
     reader.expect(answer.index as u64)?;
-    reader.expect_list(order, hashed)?;
-    reader.expect_list(queue, hashed)
+    F::expect(reader, order)?;
+    F::expect(reader, queue)
 }
 
 // The lengths of a grid's four slices; the builder's answer, and the slices after the call.
 // Room for the triples is a parameter: a proof about a number this large would list as many places.
-fn grid_in<const ROOM: usize>(
+fn grid_in<F: ListForm, const ROOM: usize>(
     reader: &mut Reader,
-    hashed: bool,
     mesh: &MeshSlices,
 ) -> Result<(), Fault>
     requires { ROOM < 2 ^ 32 }
@@ -47,11 +46,11 @@ fn grid_in<const ROOM: usize>(
     )?;
     let answer = grid.build(mesh);
     expect_built(reader, answer)?;
-    grid.expect(reader, hashed)
+    grid.expect::<F>(reader)
 }
 
-pub fn grid(reader: &mut Reader, hashed: bool, mesh: &MeshSlices) -> Result<(), Fault> {
-    grid_in::<648000>(reader, hashed, mesh)
+pub fn grid<F: ListForm>(reader: &mut Reader, mesh: &MeshSlices) -> Result<(), Fault> {
+    grid_in::<F, 648000>(reader, mesh)
 }
 
 // The mark before the call that reads whether the lists ascend; the refusal, the index, and the mark after it.
@@ -76,6 +75,6 @@ pub fn mesh(reader: &mut Reader) -> Result<(), Fault> {
     let mut mesh = MeshSlices::cut(reader, &mut positions, &mut starts, &mut entries)?;
     mesh.take(reader)?;
     reading(reader, &mesh)?;
-    walk(reader, false, &mesh)?;
-    grid(reader, false, &mesh)
+    walk::<Words>(reader, &mesh)?;
+    grid::<Words>(reader, &mesh)
 }

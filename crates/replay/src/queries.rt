@@ -1,6 +1,6 @@
 // Queries of any grids and id tables, also such as some row refuses.
 use crate::places::{F64_BEFORE, FACTOR, MARGIN, U16_BEFORE, U32_BEFORE};
-use crate::slices::{Grid, GridSlices, cut};
+use crate::slices::{Grid, GridSlices, Table, cut};
 use c_api::{AnalyticAnswer, LocatedAnswer, NearestAnswer};
 use records::{Fault, Reader};
 use vector::Vector3;
@@ -21,8 +21,8 @@ pub fn face_choice(reader: &mut Reader) -> Result<(), Fault> {
 // The refusal, three ids, three weights.
 fn expect_analytic(reader: &mut Reader, answer: AnalyticAnswer) -> Result<(), Fault> {
     reader.expect(answer.refusal)?;
-    reader.expect_list(&[answer.first, answer.second, answer.third], false)?;
-    reader.expect_list(&[answer.u, answer.v, answer.w], false)
+    reader.expect_list(&[answer.first, answer.second, answer.third])?;
+    reader.expect_list(&[answer.u, answer.v, answer.w])
 }
 
 // The refusal, the id, the number of candidates, the distance, the index.
@@ -37,21 +37,20 @@ fn expect_nearest(reader: &mut Reader, answer: NearestAnswer) -> Result<(), Faul
 // The refusal, three ids, three weights, the least of them, the index.
 fn expect_located(reader: &mut Reader, answer: LocatedAnswer) -> Result<(), Fault> {
     reader.expect(answer.refusal)?;
-    reader.expect_list(&[answer.first, answer.second, answer.third], false)?;
-    reader.expect_list(&[answer.u, answer.v, answer.w, answer.least], false)?;
+    reader.expect_list(&[answer.first, answer.second, answer.third])?;
+    reader.expect_list(&[answer.u, answer.v, answer.w, answer.least])?;
     reader.expect(answer.index as u64)
 }
 
 // Location and nearest vertex by an id table.
 pub fn analytic_answers(
     reader: &mut Reader,
-    frequency: u32,
-    ids: &[u16],
+    table: Table,
     direction: Vector3,
 ) -> Result<(), Fault> {
-    let located = c_api::lattices::koshirga_analytic_locate(frequency, ids, direction);
+    let located = c_api::lattices::koshirga_analytic_locate(table.frequency, table.ids, direction);
     expect_analytic(reader, located)?;
-    let nearest = c_api::lattices::koshirga_analytic_nearest(frequency, ids, direction);
+    let nearest = c_api::lattices::koshirga_analytic_nearest(table.frequency, table.ids, direction);
     reader.expect(nearest.refusal)?;
     reader.expect(nearest.id)
 }
@@ -98,7 +97,7 @@ pub fn analytic_query(reader: &mut Reader) -> Result<(), Fault> {
     let ids = cut(reader, &mut ids)?;
     reader.take_list(ids)?;
     let direction = take_direction(reader)?;
-    analytic_answers(reader, frequency, ids, direction)
+    analytic_answers(reader, Table { frequency, ids }, direction)
 }
 
 // How many directions; each of them with its answers.

@@ -1,7 +1,7 @@
 // Calls of the renumbering, also such as some row refuses.
 use crate::places::{F64_BEFORE, U8_BEFORE, U16_BEFORE, U32_BEFORE};
 use crate::slices::{MeshSlices, cut};
-use records::{Fault, Reader, all_are};
+use records::{Fault, Reader, Words, all_are};
 
 // The call's scratch.
 #[derive(Drop)]
@@ -99,6 +99,6 @@ pub fn renumbering(reader: &mut Reader) -> Result<(), Fault> {
     reader.take_list(values)?;
     reader.take_list(permutation)?;
     with_scratch(reader, &mut mesh, values, permutation)?;
-    mesh.expect(reader, false)?;
-    reader.expect_list(values, false)
+    mesh.expect::<Words>(reader)?;
+    reader.expect_list(values)
 }

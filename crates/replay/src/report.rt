@@ -1,6 +1,9 @@
-// Counts of records, and the line that a file gets.
+// Counts of a file's records, and the line that the file gets.
+ghost use Rattle.std.specs.Prelude.{◌<◌, ◌^◌};
+
 use records::{Fault, Reader};
 use std::io;
+use std::rt::Files;
 
 // The first record that differs and the first that does not are remembered by their numbers, which are their lines'.
 #[derive(Clone, Copy, Default)]
@@ -12,21 +15,41 @@ pub struct Tally {
 }
 
 impl Tally {
+    // Of a file's records. Room for its text is a parameter: a proof about a number as large as that below would list as many bytes.
+    // `IsAlwaysCallable`, here and below: a function that calls a closure has to ask for it.
+    pub fn of_file_within<const ROOM: usize, F: FnOnce(&[u8]) -> Tally>(
+        files: &impl Files,
+        name: &str,
+        replay: F,
+    ) -> Tally
+        requires room { ROOM < 2 ^ 32 }
+        requires callable { F.IsAlwaysCallable replay }
+    {
+        let mut text = [0u8; ROOM];
+        let size = reading::read_file(files, name, &mut text);
+        replay(&text[..size])
+    }
+
+    pub fn of_file<F: FnOnce(&[u8]) -> Tally>(files: &impl Files, name: &str, replay: F) -> Tally
+        requires { F.IsAlwaysCallable replay }
+    {
+        Self::of_file_within::<524288, F>(files, name, replay)
+    }
+
     // One record more, and what came of it.
     pub fn counted(self, outcome: Result<(), Fault>) -> Self {
         let records = self.records.wrapping_add(1);
         match outcome {
             Ok(()) => Tally {
                 records,
-                differences: self.differences,
-                first_different: self.first_different,
                 first_same: self.first_same.or(Some(records)),
+                ..self
             },
             Err(_) => Tally {
                 records,
                 differences: self.differences.wrapping_add(1),
                 first_different: self.first_different.or(Some(records)),
-                first_same: self.first_same,
+                ..self
             },
         }
     }
@@ -57,14 +80,19 @@ pub fn first_line(text: &[u8]) -> (&[u8], &[u8]) {
     }
 }
 
-fn print_counts(rt: &impl Print, name: &str, tally: Tally, noun: &str) -> io::Result<()> {
+// The counts, and a line by its number where one is remembered.
+fn print_tally(
+    rt: &impl Print,
+    name: &str,
+    tally: Tally,
+    noun: &str,
+    words: &str,
+    line: Option<u64>,
+) -> io::Result<()> {
     print!(rt;
         "{name}: {} records, {} {noun}",
         tally.records, tally.differences
-    )
-}
-
-fn print_first(rt: &impl Print, words: &str, line: Option<u64>) -> io::Result<()> {
+    )?;
     if let Some(line) = line {
         print!(rt; ", {words} in line {line}")?;
     }
@@ -72,12 +100,24 @@ fn print_first(rt: &impl Print, words: &str, line: Option<u64>) -> io::Result<()
 }
 
 pub fn print_differences(rt: &impl Print, name: &str, tally: Tally) -> io::Result<()> {
-    print_counts(rt, name, tally, "differences")?;
-    print_first(rt, "the first", tally.first_different)
+    print_tally(
+        rt,
+        name,
+        tally,
+        "differences",
+        "the first",
+        tally.first_different,
+    )
 }
 
 // For a file whose records are all wrong on purpose: each is to differ.
 pub fn print_noticed(rt: &impl Print, name: &str, tally: Tally) -> io::Result<()> {
-    print_counts(rt, name, tally, "noticed")?;
-    print_first(rt, "the first unnoticed", tally.first_same)
+    print_tally(
+        rt,
+        name,
+        tally,
+        "noticed",
+        "the first unnoticed",
+        tally.first_same,
+    )
 }

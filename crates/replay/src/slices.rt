@@ -1,7 +1,7 @@
 // Slices that are lent to calls: of the lengths that a record says, and with what it says of them.
 use crate::places::{FACTOR, MARGIN};
 use c_api::BuildAnswer;
-use records::{Fault, Reader};
+use records::{Fault, ListForm, Reader};
 
 // The next word is a length: a slice's first places, so many of them.
 pub fn cut<'a, T>(reader: &mut Reader, slice: &'a mut [T]) -> Result<&'a mut [T], Fault> {
@@ -34,18 +34,6 @@ impl<'a> MeshSlices<'a> {
         })
     }
 
-    // The call that writes a lattice: its refusal.
-    pub fn lattice(&mut self, frequency: u32, lists_ascend: &mut bool, ids: &mut [u16]) -> u32 {
-        c_api::lattices::koshirga_lattice(
-            frequency,
-            self.positions,
-            self.starts,
-            self.entries,
-            lists_ascend,
-            ids,
-        )
-    }
-
     // What stands in them before a call.
     pub fn take(&mut self, reader: &mut Reader) -> Result<(), Fault> {
         reader.take_list(self.positions)?;
@@ -54,11 +42,71 @@ impl<'a> MeshSlices<'a> {
     }
 
     // What stands in them after it.
-    pub fn expect(&self, reader: &mut Reader, hashed: bool) -> Result<(), Fault> {
-        reader.expect_list(self.positions, hashed)?;
-        reader.expect_list(self.starts, hashed)?;
-        reader.expect_list(self.entries, hashed)
+    pub fn expect<F: ListForm>(&self, reader: &mut Reader) -> Result<(), Fault> {
+        F::expect(reader, self.positions)?;
+        F::expect(reader, self.starts)?;
+        F::expect(reader, self.entries)
     }
+}
+
+// Those of a lattice, and its frequency.
+#[derive(Drop)]
+pub struct LatticeSlices<'a> {
+    pub frequency: u32,
+    pub mesh: MeshSlices<'a>,
+    pub ids: &'a mut [u16],
+}
+
+impl<'a> LatticeSlices<'a> {
+    pub fn cut(
+        reader: &mut Reader,
+        positions: &'a mut [f64],
+        starts: &'a mut [u32],
+        entries: &'a mut [u16],
+        ids: &'a mut [u16],
+    ) -> Result<LatticeSlices<'a>, Fault> {
+        let frequency = reader.take()?;
+        let mesh = MeshSlices::cut(reader, positions, starts, entries)?;
+        let ids = cut(reader, ids)?;
+        Ok(LatticeSlices {
+            frequency,
+            mesh,
+            ids,
+        })
+    }
+
+    // The call that writes the lattice: its refusal.
+    pub fn write(&mut self, lists_ascend: &mut bool) -> u32 {
+        let frequency = self.frequency;
+        let mesh = &mut self.mesh;
+        c_api::lattices::koshirga_lattice(
+            frequency,
+            mesh.positions,
+            mesh.starts,
+            mesh.entries,
+            lists_ascend,
+            self.ids,
+        )
+    }
+
+    pub fn expect<F: ListForm>(&self, reader: &mut Reader) -> Result<(), Fault> {
+        self.mesh.expect::<F>(reader)?;
+        F::expect(reader, self.ids)
+    }
+
+    // The id table, as the queries are lent it.
+    pub fn table(&self) -> Table<'_> {
+        Table {
+            frequency: self.frequency,
+            ids: self.ids,
+        }
+    }
+}
+
+#[derive(Clone, Copy)]
+pub struct Table<'a> {
+    pub frequency: u32,
+    pub ids: &'a [u16],
 }
 
 // Those of a grid.
@@ -97,11 +145,11 @@ impl<'a> GridSlices<'a> {
         reader.take_list(self.triples)
     }
 
-    pub fn expect(&self, reader: &mut Reader, hashed: bool) -> Result<(), Fault> {
-        reader.expect_list(self.cell_starts, hashed)?;
-        reader.expect_list(self.cell_ids, hashed)?;
-        reader.expect_list(self.triangle_starts, hashed)?;
-        reader.expect_list(self.triples, hashed)
+    pub fn expect<F: ListForm>(&self, reader: &mut Reader) -> Result<(), Fault> {
+        F::expect(reader, self.cell_starts)?;
+        F::expect(reader, self.cell_ids)?;
+        F::expect(reader, self.triangle_starts)?;
+        F::expect(reader, self.triples)
     }
 
     // The call that builds the grid of a mesh.

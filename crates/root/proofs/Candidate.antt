@@ -1,7 +1,7 @@
 -- A candidate for the root of x * 2 ^ 44 that passes the test: none of the differences wrapped, so it is the root. Assumes nothing.
 use Rattle.std.proofs.Common.{◌≡◌, ℕ, ◌+◌, ◌-◌, ◌*◌, ◌%◌, ◌^◌, ◌<◌, ◌≤◌, true, ◌&&◌, T, ltb, leb, sym, ◌∙◌, subst, mul_assoc, mul_comm, add-mul, mul-le-mul, mul-add, mul_left_comm, arith, ltb→lt, leb→le}
 use lib.Ieee.Fits.{and_l, and_r}
-use Rattle.words.proofs.Product.{mul_lt}
+use Rattle.std.proofs.lemmas.Nat.{mul-lt}
 
 square_of_sum : (a b : ℕ) → (a + b) * (a + b) ≡ a * a + 2 * (a * b) + b * b
 square_of_sum a b = simp (add-mul, mul-add, mul_assoc, mul_comm, mul_left_comm) (omega arith)
@@ -36,9 +36,9 @@ candidate_accepted x h l rest left m q n big H L e f g near same test =
     let left_lt = ltb→lt left (2 ^ 41) (and_r (ltb rest (2 ^ 38)) (ltb left (2 ^ 41)) both) in
     let n-le : n ≤ 2 * q = omega (arith, leb→le n (q * 2) (and_r bounds (leb n (q * 2)) passed)) in
     let m-le = small_remainder (h * 2 ^ 22 + l) q m n near same n-le in
-    let hh : h * h < 2 ^ 64 = mul_lt H H in
-    let hl : h * l < 2 ^ 58 = mul_lt H L in
-    let ll : l * l < 2 ^ 52 = mul_lt L L in
+    let hh : h * h < 2 ^ 64 = mul-lt h h _ _ H H in
+    let hl : h * l < 2 ^ 58 = mul-lt h l _ _ H L in
+    let ll : l * l < 2 ^ 52 = mul-lt l l _ _ L L in
     (n-le, same ∙ square_and_remainder x h l rest left m (omega arith) (omega arith) (omega arith))
 
 -- a difference that may wrap, of a word and a product

@@ -5,8 +5,8 @@ use lib.Ieee.{Float, nan, inf, fin, Format, low, size, up, down, le}
 use lib.Ieee.Fits.{up_pos, down_pos}
 use lib.Ieee.Nearest.{div_mono}
 use lib.Ieee.Order.{round_mono}
+use Rattle.std.proofs.lemmas.Float as float
 use Rattle.binary64.proofs.FloatOrder.{infinity_greatest}
-use Rattle.binary64.proofs.LessThan.{le_transitive}
 use Rattle.binary64.proofs.NotNan.{round_not_nan}
 use Rattle.binary64.proofs.SignedOrder.{zeros_level, signed_of_finite, le_of_signed}
 use Rattle.binary64.proofs.Tests.{Tested, tested}
@@ -90,7 +90,7 @@ square_root_monotone f (inf false) (inf true) z h = absurd h
 square_root_monotone f (inf false) (inf false) z h = tt
 square_root_monotone f (inf false) (fin t n d) z h = absurd h
 square_root_monotone f (fin s zero e) y z h =
-    le_transitive (fin s 0 e) (fin false 0 (pos 0)) (square_root f y) (zero_not_above s e) (root_not_below f y (le_transitive (fin false 0 (pos 0)) (fin s 0 e) y z h))
+    float.le_trans (fin s 0 e) (fin false 0 (pos 0)) (square_root f y) (zero_not_above s e) (root_not_below f y (float.le_trans (fin false 0 (pos 0)) (fin s 0 e) y z h))
 square_root_monotone f (fin true (suc m) e) y z h = absurd (no_negative m e z)
 square_root_monotone f (fin false (suc m) e) nan z h = absurd h
 square_root_monotone f (fin false (suc m) e) (inf true) z h = absurd h

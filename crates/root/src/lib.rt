@@ -104,7 +104,7 @@ impl RootState {
 fn product(a: u32, b: u32) -> u64
     ensures { result ≡ a * b }
 {
-    a as u64 * b as u64
+    u64::from(a) * u64::from(b)
 }
 
 // The low half of a word.
@@ -225,7 +225,8 @@ fn root_of_positive(x: f64) -> f64
 }
 
 // The square root, rounded to nearest, ties to even (IEEE 754-2019, 4.3.1). A zero is its own root,
-// and so are +∞ and NaN; a number below zero has none.
+// and so are +∞ and NaN; a number below zero has none. Not the library's, which is the processor's instruction and whose contract
+// is taken as it is: document 01 has the root go by its digits, and here they are proved.
 pub fn sqrt(x: f64) -> f64
     ensures { result ≡ square_root binary64 x }
 {

@@ -16,7 +16,7 @@ use lib.Ieee.Digits.{odd_val, size-le}
 use lib.Ieee.Fits.{two, reach, odd-fits, inf-fits, down_pos}
 use lib.Ieee.Bits.{of_bits-to_bits, nan_bits_above}
 use lib.Ieee.Scale.{overflow}
-use Rattle.words.proofs.Order.{lt_or_le, ltb-true, ltb-false}
+use Rattle.std.proofs.lemmas.Bool.{cases_lt, lt-ltb, le-ltb}
 use Rattle.rounding.proofs.RoundSticky.{size_exact, pow_le_back}
 
 -- the sign's bit
@@ -40,11 +40,11 @@ overflow_place f = let t = two f in let r = reach f in omega arith
 
 units_finite : (f : Format) (s : Bool) (q k : ℕ) → q * 2 ^ k < overflow f → units f s q k ≡ odd (suc (prec f)) s q k (low f)
 unfolding units
-units_finite f s q k h = ap (λ (b : Bool). cond b (odd (suc (prec f)) s q k (low f)) (inf s)) (ltb-true (q * 2 ^ k) (overflow f) h)
+units_finite f s q k h = ap (λ (b : Bool). cond b (odd (suc (prec f)) s q k (low f)) (inf s)) (lt-ltb (q * 2 ^ k) (overflow f) h)
 
 units_infinite : (f : Format) (s : Bool) (q k : ℕ) → overflow f ≤ q * 2 ^ k → units f s q k ≡ inf s
 unfolding units
-units_infinite f s q k h = ap (λ (b : Bool). cond b (odd (suc (prec f)) s q k (low f)) (inf s)) (ltb-false (q * 2 ^ k) (overflow f) h)
+units_infinite f s q k h = ap (λ (b : Bool). cond b (odd (suc (prec f)) s q k (low f)) (inf s)) (le-ltb (q * 2 ^ k) (overflow f) h)
 
 -- ---- what `to_bits` writes for a value that is `a` of the smallest values
 abbrev written : Format → Bool → ℕ → ℕ → ℕ
@@ -103,7 +103,7 @@ abbrev pub Kept : Format → ℕ → ℕ → Type 0
 Kept f q k = (q ≤ 2 ^ prec f) × ((k ≡ 0) ⊎ (hid f ≤ q))
 
 written_is : (f : Format) (s : Bool) (q k : ℕ) → Kept f q k → written f s (q * 2 ^ k) (size (q * 2 ^ k) - prec f) ≡ sign_bit f s + (k * hid f + q)
-written_is f s q k (le, or) = elim (eq-or-lt_of_le le) [ inl e ↦ written_carried f s q k e | inr l ↦ below l (lt_or_le q (hid f)) or ]
+written_is f s q k (le, or) = elim (eq-or-lt_of_le le) [ inl e ↦ written_carried f s q k e | inr l ↦ below l (cases_lt q (hid f)) or ]
   where
     below : q < 2 ^ prec f → (q < hid f) ⊎ (hid f ≤ q) → (k ≡ 0) ⊎ (hid f ≤ q) → written f s (q * 2 ^ k) (size (q * 2 ^ k) - prec f) ≡ sign_bit f s + (k * hid f + q)
     below l (inr g) o = written_normal f s q k g l
@@ -149,7 +149,7 @@ overflow_pattern f q k a b h =
 
 -- Rounded to q, k bits dropped: k is less than any infinity's field.
 pub rounded_pattern : (f : Format) (s : Bool) (q k : ℕ) → Kept f q k → k ≤ ones f - 2 → of_bits f (sign_bit f s + (k * hid f + q)) ≡ units f s q k
-rounded_pattern f s q k kept h = elim (lt_or_le (q * 2 ^ k) (overflow f)) [
+rounded_pattern f s q k kept h = elim (cases_lt (q * 2 ^ k) (overflow f)) [
   | inl l ↦ finite_pattern f s q k kept l
   | inr g ↦ ap (λ (x : ℕ). of_bits f (sign_bit f s + x)) (overflow_pattern f q k kept.0 h g) ∙ infinity_pattern f s ∙ sym (units_infinite f s q k g)
 ]

@@ -15,9 +15,9 @@ use lib.Ieee.Fits.{up_pos, down_pos, reach}
 use lib.Ieee.Order.{le_of_values, round_mono}
 use lib.Ieee.Positive.{positive_of_value}
 use lib.Ieee.Scale.{round_same}
+use Rattle.std.proofs.lemmas.Float as float
 use Rattle.binary64.proofs.FloatOrder.{infinity_greatest}
 use Rattle.binary64.proofs.Integral.{significand_bound}
-use Rattle.binary64.proofs.LessThan.{le_transitive}
 use Rattle.binary64.proofs.NotNan.{Signed, infinite, number, signed_not_nan}
 use Rattle.binary64.proofs.SignedOrder.{unlike_plus}
 use Rattle.rounding.proofs.Sum.{sum_same}
@@ -43,13 +43,13 @@ own_rounding f s r m e t =
 module _ (f : Format) (s : Bool) (a c m : ℕ) (e : ℤ) (C : 0 < c) (t : T (fits f (fin s m e))) where
   pub rounding_not_below : m * up e * c ≤ a * down e → T (le (fin false m e) (round f false a c))
   rounding_not_below h =
-      le_transitive (fin false m e) (round f false (m * up e) (down e)) (round f false a c)
+      float.le_trans (fin false m e) (round f false (m * up e) (down e)) (round f false a c)
       (le_of_values (fin false m e) (round f false (m * up e) (down e)) (m * up e) (down e) (m * up e) (down e) (down_pos e) (down_pos e) (refl, refl) (own_rounding f s false m e t) (le_refl _))
       (round_mono f (m * up e) (down e) a c (down_pos e) C h)
 
   pub rounding_not_above : a * down e ≤ m * up e * c → T (le (round f false a c) (fin false m e))
   rounding_not_above h =
-      le_transitive (round f false a c) (round f false (m * up e) (down e)) (fin false m e)
+      float.le_trans (round f false a c) (round f false (m * up e) (down e)) (fin false m e)
       (round_mono f a c (m * up e) (down e) C (down_pos e) h)
       (le_of_values (round f false (m * up e) (down e)) (fin false m e) (m * up e) (down e) (m * up e) (down e) (down_pos e) (down_pos e) (own_rounding f s false m e t) (refl, refl) (le_refl _))
 

@@ -2,7 +2,7 @@
 use mathlib.Core.Path.{◌≡◌, refl, sym, ap, ◌∙◌, subst}
 use mathlib.Core.Logic.{inl, inr}
 use Prim.Native.Nat.{ℕ, suc, ◌+◌, ◌-◌, ◌*◌, ◌/◌, ◌%◌, ◌^◌, ◌<◌}
-use native.Mathlib.Nat.{le_trans, le_of_eq, lt_of_lt_of_le, le_of_suc-le-suc, eq-or-lt_of_le, mul_comm, mul-pos, mod-lt, div-lt_iff_lt-mul, le-add_left}
+use native.Mathlib.Nat.{zero-lt-suc, le_trans, le_of_eq, lt_of_lt_of_le, le_of_suc-le-suc, eq-or-lt_of_le, mul_comm, mul-pos, mod-lt, div-lt_iff_lt-mul, le-add_left}
 use native.Mathlib.Omega.{arith}
 use mathlib.Core.Bool.{Bool, true, false, cond}
 use lib.Dec.{T, leb, eqb, eqb_refl}
@@ -75,15 +75,12 @@ module _ (f : Format) (x : Float) (held : T (fits f x)) (finite-x : T (finite x)
         significand = lt_of_lt_of_le (within (hid f) t (fraction_lt n)) (le_of_eq (sym (hid_double f)));
         exponent =
             below F (ones f) (λ h. z h)
-            ((div-lt_iff_lt-mul H).1 (lt_of_lt_of_le (mod-lt n (mul-pos H (lit_suc (ones f)))) (le_of_eq (mul_comm (hid f) (suc (ones f))))))
+            ((div-lt_iff_lt-mul H).1 (lt_of_lt_of_le (mod-lt n (mul-pos H (zero-lt-suc (ones f)))) (le_of_eq (mul_comm (hid f) (suc (ones f))))))
             (λ h. r.0 (sym k ∙ h));
       }
     where
       within : (h t : ℕ) → t < h → h + t < h + h
       within h t l = omega arith
-
-      lit_suc : (m : ℕ) → 0 < suc m
-      lit_suc m = omega arith
 
       below : (F N : ℕ) → (F ≡ 0 → ⊥) → F < suc N → (F ≡ N → ⊥) → F - 1 < N - 1
       below F N a h g = elim (eq-or-lt_of_le (le_of_suc-le-suc h)) [ inl e ↦ absurd (g e) | inr l ↦ omega arith ]

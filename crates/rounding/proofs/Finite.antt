@@ -1,10 +1,11 @@
--- x - x is +0 where x is finite, and else a NaN. Over any format. Assumes nothing.
-use mathlib.Core.Path.{◌≡◌, refl, ap, ◌∙◌}
+-- x - x is +0 where x is finite, and else a NaN, over any format; and what `is_finite` tests. Assumes nothing.
+use mathlib.Core.Path.{◌≡◌, refl, ◌∙◌}
 use Prim.Native.Nat.{ℕ, ◌*◌}
 use native.Mathlib.Nat.{mul-pos}
 use mathlib.Core.Bool.{Bool, true, false, not, true≢false, false≢true}
 use lib.IntN.{ℤ, pos}
-use lib.Ieee.{Float, nan, inf, fin, Format, binary32, binary64, of_bits, eq, sub, sum, up, down}
+use Rattle.std.specs.Float.{float_is_finite}
+use lib.Ieee.{Float, nan, inf, fin, Format, binary32, binary64, of_bits, sub, sum, up, down}
 use lib.Ieee.Fits.{down_pos}
 use lib.Ieee.Scale.{finite}
 use Rattle.rounding.proofs.Sum.{sum_opposite_eq}
@@ -36,15 +37,9 @@ unfolding sub
 infinite_sub_self f true = refl
 infinite_sub_self f false = refl
 
-nan_equals : (y : Float) → eq nan y ≡ false
-unfolding eq
-nan_equals y = refl
-
-zero_equals : eq (fin false 0 (pos 0)) (fin false 0 (pos 0)) ≡ true
-unfolding eq
-zero_equals = refl
-
-pub finite_test : (f : Format) (x : Float) → eq (sub f x x) (of_bits f 0) ≡ finite x
-finite_test f nan = ap (λ (y : Float). eq y (of_bits f 0)) (nan_sub_self f) ∙ nan_equals (of_bits f 0)
-finite_test f (inf s) = ap (λ (y : Float). eq y (of_bits f 0)) (infinite_sub_self f s) ∙ nan_equals (of_bits f 0)
-finite_test f (fin s m e) = ap (λ (y : Float). eq y (of_bits f 0)) (finite_sub_self f s m e) ∙ ap (λ (y : Float). eq (fin false 0 (pos 0)) y) (zero_pattern f) ∙ zero_equals
+-- the library's test is that of the definitions
+pub finite_alike : (x : Float) → float_is_finite x ≡ finite x
+unfolding float_is_finite
+finite_alike nan = refl
+finite_alike (inf s) = refl
+finite_alike (fin s m e) = refl

@@ -5,24 +5,24 @@ use mathlib.Core.Path.{◌≡◌, refl, sym, ap, ◌∙◌, subst}
 use mathlib.Core.Logic.{inl, inr}
 use mathlib.Core.Bool.{Bool, true, false, cond}
 use Prim.Native.Nat.{ℕ, ◌+◌, ◌-◌, ◌*◌, ◌≤◌, ◌<◌}
-use native.Mathlib.Nat.{le_refl, le_trans, le_of_eq, zero-mul, mul_comm, mul_assoc, mul_left_comm, mul_right_comm, mul-mul-mul_comm, mul-le-mul, mul-le-mul_right, mul-pos}
+use native.Mathlib.Nat.{le_refl, le_trans, le_of_eq, zero-mul, mul_comm, mul_assoc, mul_left_comm, mul_right_comm, mul-mul-mul_comm, mul-le-mul, mul-le-mul_right, mul-pos, eq_of_mul-eq-mul_right}
 use native.Mathlib.Omega.{arith}
 use borrow.Author.Tests.{lt-ltb, le-ltb, ne_eqb}
 use lib.Dec.{T, ltb→lt}
 use lib.IntN.{ℤ, pos}
 use lib.Ieee.{Float, inf, fin, Format, up, down, unlike, round, sum, add, mul, div, neg, le, is_nan, nan}
-use lib.Ieee.Bits.{is_true}
+use lib.Ieee.Bits.{is_false}
+use Rattle.std.proofs.lemmas.Float as float
 use lib.Ieee.Fits.{up_pos, down_pos}
 use lib.Ieee.Order.{round_mono}
 use lib.Ieee.Positive.{positive, positive-finite, le→cross}
 use lib.Ieee.Scale.{finite}
 use Rattle.binary64.specs.Absolute.{abs}
-use Rattle.binary64.proofs.FloatOrder.{infinity_least, infinity_greatest, signs_apart, le_of_not_lt, le_right_number}
-use Rattle.binary64.proofs.LessThan.{factor_zero, le_reflexive}
+use Rattle.binary64.proofs.FloatOrder.{infinity_least, infinity_greatest, signs_apart}
 use Rattle.binary64.proofs.Negation.{neg_round}
 use Rattle.binary64.proofs.NotNan.{round_signed, round_not_nan}
 use Rattle.binary64.proofs.SignedOrder.{SignedLe, signed_same, signed_scaled, signed_product, unlike_plus, signed_of_finite, signed_of_not_below, positive_not_below, neg_le}
-use Rattle.words.proofs.Order.{lt_or_le}
+use Rattle.std.proofs.lemmas.Bool.{cases_lt}
 use Rattle.rounding.proofs.Sum.{round_zero, sum_same_sign, sum_comm, sum_same}
 
 -- ---- one rounding
@@ -31,11 +31,11 @@ pub round_monotone : (f : Format) (s : Bool) (a c : ℕ) (t : Bool) (b d : ℕ) 
 unfolding le
 round_monotone f false a c false b d C D h = round_mono f a c b d C D h
 round_monotone f false a c true b d C D h =
-    let left : round f false a c ≡ fin false 0 (pos 0) = ap (λ (z : ℕ). round f false z c) (factor_zero a d D (omega arith)) ∙ round_zero f false c C in
-    let right : round f true b d ≡ fin true 0 (pos 0) = ap (λ (z : ℕ). round f true z d) (factor_zero b c C (omega arith)) ∙ round_zero f true d D in
+    let left : round f false a c ≡ fin false 0 (pos 0) = ap (λ (z : ℕ). round f false z c) (eq_of_mul-eq-mul_right d D a 0 (omega arith)) ∙ round_zero f false c C in
+    let right : round f true b d ≡ fin true 0 (pos 0) = ap (λ (z : ℕ). round f true z d) (eq_of_mul-eq-mul_right c C b 0 (omega arith)) ∙ round_zero f true d D in
     rw (left, right) tt
 round_monotone f true a c false b d C D h =
-    subst T (sym (le_of_not_lt (round f true a c) (round f false b d) (round_not_nan f true a c) (round_not_nan f false b d) (signs_apart (round_signed f true a c) (round_signed f false b d)))) tt
+    float.le_of_not-lt (round f false b d) (round f true a c) (float.T_from_false _ (round_not_nan f false b d)) (float.T_from_false _ (round_not_nan f true a c)) (float.T_from_false _ (signs_apart (round_signed f true a c) (round_signed f false b d)))
 round_monotone f true a c true b d C D h =
     subst (λ (z : Float). T (le z (round f true b d))) (neg_round f false a c)
     (subst (λ (z : Float). T (le (neg (round f false a c)) z)) (neg_round f false b d)
@@ -71,7 +71,7 @@ record ExactSum (f : Format) (s : Bool) (a : ℕ) (t : Bool) (b c : ℕ) : Type 
 -- +a and −b
 unlike_signs : (f : Format) (a b c : ℕ) → ExactSum f false a true b c
 unfolding sum
-unlike_signs f a b c = elim (lt_or_le a b) [
+unlike_signs f a b c = elim (cases_lt a b) [
   | inl l ↦ record { sign = true; magnitude = b - a; rounded = rw (lt-ltb a b l); exact = omega arith }
   | inr g ↦ record { sign = false; magnitude = a - b; rounded = rw (le-ltb a b g); exact = omega arith }
 ]
@@ -218,7 +218,7 @@ square_monotone f (fin s m e) (fin t n d) X Y h =
 module _ (F : Float → Float) (leaves : (s : Bool) → F (inf s) ≡ inf s) (grows : (x y : Float) → T (finite x) → T (finite y) → T (le x y) → T (le (F x) (F y))) where
   stays_number : (s : Bool) (m : ℕ) (e : ℤ) → is_nan (F (fin s m e)) ≡ false
   unfolding is_nan
-  stays_number s m e = let x = fin s m e in le_right_number (F x) (F x) (is_true (le (F x) (F x)) (grows x x tt tt (subst T (sym (le_reflexive x refl)) tt)))
+  stays_number s m e = let x = fin s m e in is_false (is_nan (F x)) (float.le_right (F x) (F x) (grows x x tt tt (float.le_refl x tt)))
 
   pub monotone_to_infinities : (x y : Float) → T (le x y) → T (le (F x) (F y))
   unfolding le

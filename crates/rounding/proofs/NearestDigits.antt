@@ -3,7 +3,7 @@
 use mathlib.Core.Path.{◌≡◌, sym, ap, ◌∙◌, subst}
 use mathlib.Core.Logic.{◌⊎◌, inl, inr}
 use Prim.Native.Nat.{ℕ, zero, suc, ◌+◌, ◌-◌, ◌*◌, ◌/◌, ◌%◌, ◌^◌, ◌≤◌, ◌<◌, compare, Ordering}
-use native.Mathlib.Nat.{pow-suc, mul-mod_left, div-div-eq-div-mul, mul-sub, add-mul, le_trans, le_of_eq, le_of_lt, lt_irrefl, lt_of_lt_of_le, lt_of_le_of_lt, mul_comm, mul_assoc, mul_right_comm, mul-le-mul_right, mul-lt-mul_of_pos_right, mul-pos, eq_of_mul-eq-mul_right, suc-mul, mod-lt, div-add-mod', le-div_iff_mul-le}
+use native.Mathlib.Nat.{pow-suc, mul-mod_left, div-div-eq-div-mul, add-mul, le_trans, le_of_eq, le_of_lt, lt_irrefl, lt_of_lt_of_le, lt_of_le_of_lt, mul_comm, mul_assoc, mul_right_comm, mul-le-mul_right, mul-lt-mul_of_pos_right, mul-pos, eq_of_mul-eq-mul_right, suc-mul, mod-lt, div-add-mod', le-div_iff_mul-le}
 use native.Mathlib.Omega.{arith}
 use mathlib.Core.Bool.{Bool, true, false, not}
 use lib.Dec.{T, ltb, ltb→lt, nltb→le}
@@ -14,14 +14,12 @@ use lib.Ieee.Fits.{nearest-le, kept-lt}
 use lib.Ieee.Nearest.{closest}
 use lib.Ieee.Order.{drop, kept}
 use Rattle.rounding.proofs.Compare.{Compares, compare_holds}
+use Rattle.rounding.proofs.Sum.{sub_mul}
 use Rattle.rounding.specs.TiesToEven.{abs_diff}
 
 -- ---- distances and even numbers
 pub abs_diff_mul : (x y c : ℕ) → abs_diff x y * c ≡ abs_diff (x * c) (y * c)
-abs_diff_mul x y c = add-mul (x - y) (y - x) c ∙ (λ i. sub_mul x y i + sub_mul y x i)
-  where
-    sub_mul : (x y : ℕ) → (x - y) * c ≡ x * c - y * c
-    sub_mul x y = mul_comm (x - y) c ∙ mul-sub c x y ∙ (λ i. mul_comm c x i - mul_comm c y i)
+abs_diff_mul x y c = add-mul (x - y) (y - x) c ∙ (λ i. sub_mul x y c i + sub_mul y x c i)
 
 pub even_product : (q x : ℕ) → q % 2 ≡ 0 → q * x % 2 ≡ 0
 even_product q x e =

@@ -1,8 +1,8 @@
 -- `round` of a fraction by the place x of its leading bit; and that a number which is sticky-equivalent to the fraction, at a unit at least `prec` bits below its leading one, rounds as the fraction does.
 -- Over any format. Assumes nothing.
 use mathlib.Core.Path.{◌≡◌, sym, ap, ◌∙◌, subst}
-use Prim.Native.Nat.{ℕ, suc, ◌+◌, ◌-◌, ◌*◌, ◌/◌, ◌^◌, ◌≤◌, ◌<◌}
-use native.Mathlib.Nat.{le_trans, le_of_eq, lt_irrefl, lt_of_lt_of_le, lt_of_le_of_lt, lt_of_not-le, le_of_suc-le-suc, le_antisymm, mul_comm, mul_assoc, mul_left_comm, mul_right_comm, mul-le-mul_right, mul-lt-mul_of_pos_right, mul-pos, le-div_iff_mul-le, div-lt_iff_lt-mul, div-eq_of_lt, le_of_mul-le-mul_right, lt_of_mul-lt-mul_right}
+use Prim.Native.Nat.{ℕ, suc, zero-le, ◌+◌, ◌-◌, ◌*◌, ◌/◌, ◌^◌, ◌≤◌, ◌<◌}
+use native.Mathlib.Nat.{le_trans, le_of_eq, sub-add_cancel, lt_irrefl, lt_of_lt_of_le, lt_of_le_of_lt, lt_of_not-le, le_of_suc-le-suc, le_antisymm, mul_comm, mul_assoc, mul_left_comm, mul_right_comm, mul-le-mul_right, mul-lt-mul_of_pos_right, mul-pos, le-div_iff_mul-le, div-lt_iff_lt-mul, div-eq_of_lt, le_of_mul-le-mul_right, lt_of_mul-lt-mul_right}
 use native.Mathlib.Omega.{arith}
 use mathlib.Core.Bool.{Bool, true, false, not}
 use lib.Dec.{T, leb, leb→le, nleb→lt, lit<}
@@ -33,7 +33,7 @@ size_at n den x b D lo hi = go (leb b x) (leb→le b x) (nleb→lt b x)
     go : (t : Bool) → (T t → b ≤ x) → (T (not t) → x < b) → size (n / den) ≡ suc x - b
     go true h k =
         let l = h tt in
-        let e : 2 ^ x ≡ 2 ^ (x - b) * 2 ^ b = ap (λ (z : ℕ). 2 ^ z) (split x b l) ∙ pow-add 2 (x - b) b in
+        let e : 2 ^ x ≡ 2 ^ (x - b) * 2 ^ b = ap (λ (z : ℕ). 2 ^ z) (sym (sub-add_cancel l)) ∙ pow-add 2 (x - b) b in
         let e-next : 2 ^ suc x ≡ 2 ^ suc (x - b) * 2 ^ b = ap (λ (z : ℕ). 2 ^ z) (split_next x b l) ∙ pow-add 2 (suc (x - b)) b in
         let n-ge : 2 ^ (x - b) * den ≤ n =
         le_of_mul-le-mul_right (le_trans (le_of_eq (mul_right_comm (2 ^ (x - b)) den (2 ^ b) ∙ ap (λ (z : ℕ). z * den) (sym e))) lo) (pow_pos b) in
@@ -41,9 +41,6 @@ size_at n den x b D lo hi = go (leb b x) (leb→le b x) (nleb→lt b x)
         lt_of_mul-lt-mul_right (2 ^ b) (lt_of_lt_of_le hi (le_of_eq (ap (λ (z : ℕ). z * den) e-next ∙ mul_right_comm (2 ^ suc (x - b)) (2 ^ b) den))) in
         size_exact (x - b) (n / den) ((le-div_iff_mul-le D).1 n-ge) ((div-lt_iff_lt-mul D).1 n-lt) ∙ up x b l
       where
-        split : (x b : ℕ) → b ≤ x → x ≡ x - b + b
-        split x b l = omega arith
-
         split_next : (x b : ℕ) → b ≤ x → suc x ≡ suc (x - b) + b
         split_next x b l = omega arith
 
@@ -53,13 +50,10 @@ size_at n den x b D lo hi = go (leb b x) (leb→le b x) (nleb→lt b x)
         let less : n < den = lt_of_mul-lt-mul_right (2 ^ b) (lt_of_lt_of_le hi (le_trans (mul-le-mul_right den (pow_mono (k tt))) (le_of_eq (mul_comm (2 ^ b) den)))) in
         le_antisymm
         (le_trans (size-le (n / den) 0 (lt_of_le_of_lt (le_of_eq (div-eq_of_lt less)) (pow_pos 0))) (none x b))
-        (le_trans (le_of_eq (all x b (k tt))) (zero-le (size (n / den))))
+        (le_trans (le_of_eq (all x b (k tt))) zero-le)
       where
         none : (x b : ℕ) → 0 ≤ suc x - b
         none x b = omega arith
-
-        zero-le : (z : ℕ) → 0 ≤ z
-        zero-le z = omega arith
 
         all : (x b : ℕ) → x < b → suc x - b ≡ 0
         all x b l = omega arith

@@ -9,7 +9,7 @@ use lib.Dec.{ltb, lit<}
 use lib.IntN.{pos}
 use lib.Ieee.{fin, Format, binary32, binary64, round, sum}
 use lib.Ieee.Scale.{round_same}
-use Rattle.words.proofs.Order.{lt_or_le, ltb-true, ltb-false}
+use Rattle.std.proofs.lemmas.Bool.{cases_lt, lt-ltb, le-ltb}
 
 pub sub_mul : (x y z : ℕ) → (x - y) * z ≡ x * z - y * z
 sub_mul x y z = mul_comm (x - y) z ∙ mul-sub z x y ∙ (λ i. mul_comm z x i - mul_comm z y i)
@@ -50,18 +50,18 @@ sum_opposite f false true a b c e = refl
 pub sum_opposite_gt : (f : Format) (s t : Bool) (a b c : ℕ) → (s ≡ t → ⊥) → b < a → sum f s a t b c ≡ round f s (a - b) c
 sum_opposite_gt f s t a b c e h =
     sum_opposite f s t a b c e
-    ∙ ap (λ (x : Bool). cond x (round f t (b - a) c) (round f (s && ltb b a) (a - b) c)) (ltb-false a b (le_of_lt h))
-    ∙ ap (λ (x : Bool). round f x (a - b) c) (ap (λ (x : Bool). s && x) (ltb-true b a h) ∙ and-true s)
+    ∙ ap (λ (x : Bool). cond x (round f t (b - a) c) (round f (s && ltb b a) (a - b) c)) (le-ltb a b (le_of_lt h))
+    ∙ ap (λ (x : Bool). round f x (a - b) c) (ap (λ (x : Bool). s && x) (lt-ltb b a h) ∙ and-true s)
 
 pub sum_opposite_lt : (f : Format) (s t : Bool) (a b c : ℕ) → (s ≡ t → ⊥) → a < b → sum f s a t b c ≡ round f t (b - a) c
-sum_opposite_lt f s t a b c e h = sum_opposite f s t a b c e ∙ ap (λ (x : Bool). cond x (round f t (b - a) c) (round f (s && ltb b a) (a - b) c)) (ltb-true a b h)
+sum_opposite_lt f s t a b c e h = sum_opposite f s t a b c e ∙ ap (λ (x : Bool). cond x (round f t (b - a) c) (round f (s && ltb b a) (a - b) c)) (lt-ltb a b h)
 
 -- An exact zero from opposite signs is +0 (IEEE 754-2019, 6.3).
 pub sum_opposite_eq : (f : Format) (s t : Bool) (a b c : ℕ) → (s ≡ t → ⊥) → a ≡ b → 0 < c → sum f s a t b c ≡ fin false 0 (pos 0)
 sum_opposite_eq f s t a b c e h C =
     sum_opposite f s t a b c e
-    ∙ ap (λ (x : Bool). cond x (round f t (b - a) c) (round f (s && ltb b a) (a - b) c)) (ltb-false a b (le_of_eq (sym h)))
-    ∙ ap (λ (x : Bool). round f x (a - b) c) (ap (λ (x : Bool). s && x) (ltb-false b a (le_of_eq h)) ∙ and-false s)
+    ∙ ap (λ (x : Bool). cond x (round f t (b - a) c) (round f (s && ltb b a) (a - b) c)) (le-ltb a b (le_of_eq (sym h)))
+    ∙ ap (λ (x : Bool). round f x (a - b) c) (ap (λ (x : Bool). s && x) (le-ltb b a (le_of_eq h)) ∙ and-false s)
     ∙ ap (λ (x : ℕ). round f false x c) (let k : a - b ≡ 0 = omega arith in k)
     ∙ round_zero f false c C
 
@@ -69,7 +69,7 @@ sum_opposite_eq f s t a b c e h C =
 pub sum_comm : (f : Format) (s t : Bool) (a b c : ℕ) → 0 < c → sum f s a t b c ≡ sum f t b s a c
 sum_comm f s t a b c C = elim (same_or_not s t) [
   | inl e ↦ sum_same_sign f s t a b c e ∙ ap (λ (x : Bool). round f x (a + b) c) e ∙ ap (λ (x : ℕ). round f t x c) (add_comm a b) ∙ sym (sum_same_sign f t s b a c (sym e))
-  | inr n ↦ elim (lt_or_le a b) [
+  | inr n ↦ elim (cases_lt a b) [
     | inl l ↦ sum_opposite_lt f s t a b c n l ∙ sym (sum_opposite_gt f t s b a c (λ e. n (sym e)) l)
     | inr g ↦ elim (eq-or-lt_of_le g) [
       | inl e ↦ sum_opposite_eq f s t a b c n (sym e) C ∙ sym (sum_opposite_eq f t s b a c (λ x. n (sym x)) e C)
@@ -88,7 +88,7 @@ sum_same f s t a b c a₂ b₂ c₂ C C₂ p q = elim (same_or_not s t) [
       sum_same_sign f s t a b c e
       ∙ round_same f s (a + b) c (a₂ + b₂) c₂ C C₂ (add-mul a b c₂ ∙ (λ i. p i + q i) ∙ sym (add-mul a₂ b₂ c))
       ∙ sym (sum_same_sign f s t a₂ b₂ c₂ e)
-  | inr n ↦ elim (lt_or_le a b) [
+  | inr n ↦ elim (cases_lt a b) [
     | inl l ↦
         sum_opposite_lt f s t a b c n l
         ∙ round_same f t (b - a) c (b₂ - a₂) c₂ C C₂ (sub_mul b a c₂ ∙ (λ i. q i - p i) ∙ sym (sub_mul b₂ a₂ c))

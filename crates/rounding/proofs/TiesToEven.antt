@@ -18,7 +18,9 @@ use lib.Ieee.Exact.{HasValue, units_val}
 use lib.Ieee.Order.{drop, kept, round_mono}
 use lib.Ieee.Scale.{grid, overflow, finite}
 use lib.Ieee.Positive.{den, den_pos}
-use Rattle.booleans.proofs.Booleans.{or_l}
+use Rattle.std.specs.Cmp.{booleans_Decides}
+use Rattle.std.proofs.lemmas.Bool.{or_left}
+use Rattle.std.proofs.lemmas.Float.{T_from_true}
 use Rattle.binary64.proofs.Negation.{neg_round}
 use Rattle.binary64.proofs.NotNan.{value_finite}
 use Rattle.rounding.proofs.RoundSticky.{pow_le_back, size_exact}
@@ -60,16 +62,12 @@ sum_units : (a b x y c L : ℕ) → x * L ≡ c * y → (a * y + x * b) * L ≡ 
 sum_units a b x y c L e =
     add-mul (a * y) (x * b) L ∙ (λ i. mul_right_comm a y L i + (mul_right_comm x b L ∙ ap (λ (z : ℕ). z * b) e ∙ mul_right_comm c y b) i) ∙ sym (add-mul (a * L) (c * b) y)
 
-beq_refl : (s : Bool) → T (beq s s)
-beq_refl true = tt
-beq_refl false = tt
-
 -- the distance of a value with the fraction's own sign
 distance_own : (s : Bool) (a b : ℕ) (x : Float) (c L : ℕ) → HasValue x s c L → distance s a b x * L ≡ abs_diff (a * L) (c * b) * den x
 unfolding distance
 distance_own s a b nan c L h = absurd h
 distance_own s a b (inf t) c L h = absurd h
-distance_own s a b (fin t m e) c L h = go (beq s t) (subst (λ (u : Bool). T (beq s u)) (sym h.0) (beq_refl s))
+distance_own s a b (fin t m e) c L h = go (beq s t) (T_from_true _ ((booleans_Decides s t).1 (sym h.0)))
   where
     go : (q : Bool) → T q → cond q (abs_diff (a * down e) (m * up e * b)) (a * down e + m * up e * b) * L ≡ abs_diff (a * L) (c * b) * down e
     go true u = same_units a b (m * up e) (down e) c L h.1
@@ -283,7 +281,7 @@ unequal s m e (fin z n d) c L p h v t =
     let same : m * up e * down d ≡ n * up d * down e = eq_of_mul-eq-mul_right L p (m * up e * down d) (n * up d * down e)
     (mul_right_comm (m * up e) (down d) L ∙ ap (λ (x : ℕ). x * down d) h ∙ mul_right_comm c (down e) (down d) ∙ ap (λ (x : ℕ). x * down e) (sym v.1) ∙ mul_right_comm (n * up d) L (down e)) in
     T_not (eqb (m * up e * down d) (n * up d * down e) && (beq s z || eqb (m * up e * down d) 0)) t
-    (and_i (eqb (m * up e * down d) (n * up d * down e)) (beq s z || eqb (m * up e * down d) 0) (eq→eqb same) (or_l (beq s z) (eqb (m * up e * down d) 0) (subst (λ (u : Bool). T (beq s u)) (sym v.0) (beq_refl s))))
+    (and_i (eqb (m * up e * down d) (n * up d * down e)) (beq s z || eqb (m * up e * down d) 0) (eq→eqb same) (T_from_true _ (or_left (beq s z) (eqb (m * up e * down d) 0) ((booleans_Decides s z).1 (sym v.0)))))
 
 module _ (f : Format) (s : Bool) (a b : ℕ) (B : 0 < b) (H : InRange f a b) where
   -- a value of the fraction's sign
@@ -316,15 +314,12 @@ module _ (f : Format) (s : Bool) (a b : ℕ) (B : 0 < b) (H : InRange f a b) whe
       (distance_own s a b r (grid f a b) L (round_units f s a b B H)) (distance_unlike s a b t m e c L n at.2) d in
       let y : abs_diff (a * L) (grid f a b * b) ≤ abs_diff (a * L) (0 * 2 ^ 0 * b) = rounded_nearest p (a * L) b 0 0 P B (pow_pos p) in
       elim (eq-zero-or-pos (grid f a b)) [
-        | inl z ↦ ap (λ (q : ℕ). q % 2) (zero_of (kept p (a * L) b) (2 ^ drop p (a * L) b) (pow_pos (drop p (a * L) b)) z)
+        | inl z ↦ ap (λ (q : ℕ). q % 2) (eq_of_mul-eq-mul_right (2 ^ drop p (a * L) b) (pow_pos (drop p (a * L) b)) (kept p (a * L) b) 0 (omega (arith, z)))
         | inr g ↦
             rounded_even p (a * L) b 0 0 P B (pow_pos p) (as_far (a * L) (c * b) (abs_diff (a * L) (grid f a b * b)) (0 * 2 ^ 0 * b) none x y)
             (λ (z : 0 * 2 ^ 0 ≡ grid f a b). lt_irrefl 0 (subst (λ (w : ℕ). 0 < w) (sym z) g))
       ]
     where
-      zero_of : (q w : ℕ) → 0 < w → q * w ≡ 0 → q ≡ 0
-      zero_of q w h e = elim (eq-zero-or-pos q) [ inl z ↦ z | inr l ↦ absurd (lt_irrefl 0 (subst (λ (x : ℕ). 0 < x) e (mul-pos l h))) ]
-
       as_far : (n y g z : ℕ) → z ≡ 0 → g ≡ n + y → g ≤ abs_diff n z → g ≡ abs_diff n z
       as_far n y g z o e h = omega arith
 

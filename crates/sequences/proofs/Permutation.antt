@@ -17,14 +17,15 @@ use lib.Dec.{ltb, eqb}
 use lib.ListN.{length, get_or, length-map}
 use lib.Seq.{ext_get_or}
 use borrow.Author.Tests.{ltb-true, eqb-true, eqb-false, not-true, eq-eqb, ne_eqb, lt-ltb, le-ltb}
-use Rattle.booleans.proofs.Booleans.{and_split, and_intro, and_right_fails}
+use Rattle.std.proofs.lemmas.List.{get_or-map}
+use Rattle.std.proofs.lemmas.Bool.{and_parts, and_from, and_right}
 use Rattle.sequences.specs.Range.{all_below, sum_below, Updated}
 use Rattle.sequences.specs.Tabulate.{block, overwrite}
 use Rattle.sequences.specs.Starts.{start_of}
 use Rattle.sequences.specs.Ascending.{Nondecreasing, sort}
 use Rattle.sequences.specs.Permutation.{at, Bijection, IsPermutation, is_fresh, is_permutation, Marks, last_place_of, inverse, Inverting, identity, compose, moved_blocks, moved, moved_pairs, relabelled}
 use Rattle.sequences.proofs.Range.{last_or_below, all_below_at, all_below_intro, all_below_suc, all_below_fails, sum_extensional, sum_injection, pigeonhole}
-use Rattle.sequences.proofs.Tabulate.{length_tabulate, tabulate_at, length_block, block_at, block_unique, get_d_map, length_overwrite, overwrite_at, overwrite_beyond}
+use Rattle.sequences.proofs.Tabulate.{length_tabulate, tabulate_at, length_block, block_at, block_unique, length_overwrite, overwrite_at, overwrite_beyond}
 use Rattle.sequences.proofs.Starts.{concatenate_even_length, concatenate_even_at, concatenate_even_unique, start_extensional}
 use Rattle.sequences.proofs.Ascending.{sort_members, length_sort, sort_nondecreasing}
 use Rattle.sequences.proofs.Sorted.{sort_map_sort}
@@ -64,10 +65,10 @@ start_bijection f h = sum_bijection (λ v. length (f v)) h
 -- ---- the test
 pub is_permutation_sound : (n : ℕ) (q : List ℕ) → is_permutation n q ≡ true → IsPermutation n q
 unfolding is_permutation is_fresh
-is_permutation_sound n q ok = record { size = eqb-true (length q) n (and_split (eqb (length q) n) _ ok).0; below = below; injective = injective }
+is_permutation_sound n q ok = record { size = eqb-true (length q) n (and_parts (eqb (length q) n) _ ok).0; below = below; injective = injective }
   where
     fresh : (v : ℕ) → v < n → (ltb (at q v) n ≡ true) × (all_below (λ u. not (eqb (at q u) (at q v))) v ≡ true)
-    fresh v lt = and_split _ _ (all_below_at (is_fresh n q) n v (and_split (eqb (length q) n) _ ok).1 lt)
+    fresh v lt = and_parts _ _ (all_below_at (is_fresh n q) n v (and_parts (eqb (length q) n) _ ok).1 lt)
 
     below : (v : ℕ) → v < n → at q v < n
     below v lt = ltb-true (at q v) n (fresh v lt).0
@@ -84,7 +85,7 @@ is_permutation_sound n q ok = record { size = eqb-true (length q) n (and_split (
 pub is_permutation_complete : (n : ℕ) (q : List ℕ) → IsPermutation n q → is_permutation n q ≡ true
 unfolding is_permutation is_fresh
 is_permutation_complete n q h =
-    and_intro _ _ (eq-eqb (length q) n h.size) (all_below_intro (is_fresh n q) n (λ v lv. and_intro _ _ (lt-ltb (at q v) n (h.below v lv))
+    and_from _ _ (eq-eqb (length q) n h.size) (all_below_intro (is_fresh n q) n (λ v lv. and_from _ _ (lt-ltb (at q v) n (h.below v lv))
     (all_below_intro (λ u. not (eqb (at q u) (at q v))) v (λ u lu. rw (ne_eqb (at q u) (at q v) (λ e. let r = h.injective u v (omega arith) lv e in omega arith)) refl))))
 
 -- ---- the test by marks
@@ -99,7 +100,7 @@ marks_none z = record {
 fresh_if_unmarked : (n : ℕ) (q : List ℕ) (marked : ℕ → Bool) (v : ℕ) → Marks n q marked v → at q v < n → marked (at q v) ≡ false → is_fresh n q v ≡ true
 unfolding is_fresh
 fresh_if_unmarked n q marked v h lt z =
-    and_intro _ _ (lt-ltb (at q v) n lt)
+    and_from _ _ (lt-ltb (at q v) n lt)
     (all_below_intro (λ u. not (eqb (at q u) (at q v))) v (λ u lu. rw (ne_eqb (at q u) (at q v) (h.unmarked_unmet (at q v) lt z u lu)) refl))
 
 -- the number at v is below n and not marked: it is marked, and the next place comes
@@ -121,7 +122,7 @@ marks_step {n} {q} {marked} {marked-after} {v} h lt z s = record {
 
 pub marks_all : {n : ℕ} {q : List ℕ} {marked : ℕ → Bool} {v : ℕ} → length q ≡ n → n ≤ v → Marks n q marked v → is_permutation n q ≡ true
 unfolding is_permutation
-marks_all {n} {q} {marked} {v} e le h = and_intro _ _ (eq-eqb (length q) n e) (all_below_intro (is_fresh n q) n (λ i lt. all_below_at (is_fresh n q) v i h.passed (omega arith)))
+marks_all {n} {q} {marked} {v} e le h = and_from _ _ (eq-eqb (length q) n e) (all_below_intro (is_fresh n q) n (λ i lt. all_below_at (is_fresh n q) v i h.passed (omega arith)))
 
 pub refused_length : (n : ℕ) (q : List ℕ) → length q ≢ n → is_permutation n q ≡ false
 unfolding is_permutation
@@ -129,14 +130,14 @@ refused_length n q h = rw (ne_eqb (length q) n h) refl
 
 pub refused_range : (n : ℕ) (q : List ℕ) (v : ℕ) → v < n → n ≤ at q v → is_permutation n q ≡ false
 unfolding is_permutation is_fresh
-refused_range n q v lt h = and_right_fails (eqb (length q) n) _ (all_below_fails (is_fresh n q) n v lt (rw (le-ltb (at q v) n h) refl))
+refused_range n q v lt h = and_right (eqb (length q) n) _ (all_below_fails (is_fresh n q) n v lt (rw (le-ltb (at q v) n h) refl))
 
 pub refused_repeat : {n : ℕ} {q : List ℕ} {marked : ℕ → Bool} {v : ℕ} → v < n → Marks n q marked v → at q v < n → marked (at q v) ≡ true → is_permutation n q ≡ false
 unfolding is_permutation is_fresh
 refused_repeat {n} {q} {marked} {v} lt h low e =
     let t = h.marked_met (at q v) low e in
-    and_right_fails (eqb (length q) n) _
-    (all_below_fails (is_fresh n q) n v lt (and_right_fails (ltb (at q v) n) _
+    and_right (eqb (length q) n) _
+    (all_below_fails (is_fresh n q) n v lt (and_right (ltb (at q v) n) _
     (all_below_fails (λ u. not (eqb (at q u) (at q v))) v t.0 t.1 (rw (eq-eqb (at q t.0) (at q v) t.2) refl))))
 
 -- ---- the inverse
@@ -232,7 +233,7 @@ length_compose q p = length-map p (at q)
 
 pub compose_at : (q p : List ℕ) (v : ℕ) → v < length p → at (compose q p) v ≡ at q (at p v)
 unfolding compose
-compose_at q p v lt = get_d_map (at q) p v 0 0 lt
+compose_at q p v lt = get_or-map (at q) p v 0 0 lt
 
 module _ {n : ℕ} {p q : List ℕ} (h : IsPermutation n p) (k : IsPermutation n q) where
   pub compose_permutation : IsPermutation n (compose q p)

@@ -10,11 +10,11 @@ use mathlib.Core.Path.{◌≡◌, refl, sym, ap, ◌∙◌}
 use mathlib.Core.Logic.{◌⊎◌, inl, inr, ◌≢◌}
 use mathlib.Core.Bool.{Bool, true, false, not, ◌&&◌, ◌||◌, cond}
 use mathlib.Core.List.{List}
-use lib.Dec.{ltb, eqb}
+use lib.Dec.{eqb}
 use lib.ListN.{length, get_or, set}
 use lib.Seq.{get_or-set_same, get_or-set_other}
-use borrow.Author.Tests.{ltb-true, ltb-false, eq-eqb, ne_eqb, eqb-true, eqb-false}
-use Rattle.booleans.proofs.Booleans.{true_or_false, and_split, and_intro, and_right_fails, or_split, or_left, or_right, true_false}
+use borrow.Author.Tests.{eq-eqb, ne_eqb}
+use Rattle.std.proofs.lemmas.Bool.{cases_Bool, and_parts, and_from, and_right, or_cases, or_left, or_right, both_ways}
 use Rattle.sequences.specs.Range.{all_below, first_failing, some_below, sum_below, Updated, nonzero_at}
 
 pub last_or_below : (i n : ℕ) → i < suc n → (i ≡ n) ⊎ (i < n)
@@ -24,21 +24,21 @@ last_or_below i n h = eq-or-lt_of_le (le_of_suc-le-suc h)
 pub all_below_at : (p : ℕ → Bool) (n i : ℕ) → all_below p n ≡ true → i < n → p i ≡ true
 unfolding all_below
 all_below_at p zero i h lt = absurd (not-suc-le-zero lt)
-all_below_at p (suc n) i h lt = go (all_below_at p n i (and_split (all_below p n) (p n) h).0) (last_or_below i n lt)
+all_below_at p (suc n) i h lt = go (all_below_at p n i (and_parts (all_below p n) (p n) h).0) (last_or_below i n lt)
   where
     go : (i < n → p i ≡ true) → (i ≡ n) ⊎ (i < n) → p i ≡ true
-    go below (inl e) = ap p e ∙ (and_split (all_below p n) (p n) h).1
+    go below (inl e) = ap p e ∙ (and_parts (all_below p n) (p n) h).1
     go below (inr k) = below k
 
 pub all_below_intro : (p : ℕ → Bool) (n : ℕ) → ((i : ℕ) → i < n → p i ≡ true) → all_below p n ≡ true
 unfolding all_below
 all_below_intro p zero h = refl
-all_below_intro p (suc n) h = and_intro (all_below p n) (p n) (all_below_intro p n (λ i lt. h i (omega arith))) (h n (omega arith))
+all_below_intro p (suc n) h = and_from (all_below p n) (p n) (all_below_intro p n (λ i lt. h i (omega arith))) (h n (omega arith))
 
 -- one more turn of a loop that tests
 pub all_below_suc : (p : ℕ → Bool) (n : ℕ) → all_below p n ≡ true → p n ≡ true → all_below p (n + 1) ≡ true
 unfolding all_below
-all_below_suc p n h e = rw add-one (and_intro (all_below p n) (p n) h e)
+all_below_suc p n h e = rw add-one (and_from (all_below p n) (p n) h e)
 
 -- one that fails refuses all
 pub all_below_fails : (p : ℕ → Bool) (n i : ℕ) → i < n → p i ≡ false → all_below p n ≡ false
@@ -47,14 +47,14 @@ all_below_fails p zero i lt h = absurd (not-suc-le-zero lt)
 all_below_fails p (suc n) i lt h = go (all_below_fails p n i) (last_or_below i n lt)
   where
     go : (i < n → p i ≡ false → all_below p n ≡ false) → (i ≡ n) ⊎ (i < n) → all_below p n && p n ≡ false
-    go below (inl e) = and_right_fails (all_below p n) (p n) (ap p (sym e) ∙ h)
+    go below (inl e) = and_right (all_below p n) (p n) (ap p (sym e) ∙ h)
     go below (inr k) = rw (below k h) refl
 
 -- ---- a test of some number below n
 pub some_below_at : (p : ℕ → Bool) (n : ℕ) → some_below p n ≡ true → (i : ℕ) × (i < n) × (p i ≡ true)
 unfolding some_below
 some_below_at p zero h = let z : ◌≡◌ {A = ℕ} 0 1 = cc in absurd (let y : ⊥ = omega arith in y)
-some_below_at p (suc n) h = go (some_below_at p n) (or_split (some_below p n) (p n) h)
+some_below_at p (suc n) h = go (some_below_at p n) (or_cases (some_below p n) (p n) h)
   where
     go : (some_below p n ≡ true → (i : ℕ) × (i < n) × (p i ≡ true)) → (some_below p n ≡ true) ⊎ (p n ≡ true) → (i : ℕ) × (i < suc n) × (p i ≡ true)
     go below (inl e) = let r = below e in (r.0, omega arith, r.2)
@@ -163,27 +163,12 @@ pub marked_by_set : (n : ℕ) (l : List ℕ) (i : ℕ) → i < length l → Upda
 unfolding nonzero_at
 marked_by_set n l i lt = updated_through (λ k. not (eqb k 0)) (updated_by_set n l i 1 0 lt)
 
--- ---- numbers compared
-pub below_or_from : (a b : ℕ) → (a < b) ⊎ (b ≤ a)
-below_or_from a b = go (true_or_false (ltb a b))
-  where
-    go : (ltb a b ≡ true) ⊎ (ltb a b ≡ false) → (a < b) ⊎ (b ≤ a)
-    go (inl t) = inl (ltb-true a b t)
-    go (inr f) = inr (ltb-false a b f)
-
-pub equal_or_not : (a b : ℕ) → (a ≡ b) ⊎ (a ≢ b)
-equal_or_not a b = go (true_or_false (eqb a b))
-  where
-    go : (eqb a b ≡ true) ⊎ (eqb a b ≡ false) → (a ≡ b) ⊎ (a ≢ b)
-    go (inl t) = inl (eqb-true a b t)
-    go (inr f) = inr (eqb-false a b f)
-
 -- ---- none below n passes
 pub some_below_none : (p : ℕ → Bool) (n i : ℕ) → some_below p n ≡ false → i < n → p i ≡ false
-some_below_none p n i none lt = go (true_or_false (p i))
+some_below_none p n i none lt = go (cases_Bool (p i))
   where
     go : (p i ≡ true) ⊎ (p i ≡ false) → p i ≡ false
-    go (inl t) = absurd (true_false (some_below p n) (some_below_intro p n i lt t) none)
+    go (inl t) = absurd (both_ways (some_below p n) none (some_below_intro p n i lt t))
     go (inr f) = f
 
 -- ---- sums of sums and multiples
@@ -211,7 +196,7 @@ first_failing_at p (suc n) i lt all fails = go (last_or_below i n lt) (first_fai
 pub first_failing_lem : (p : ℕ → Bool) (n : ℕ) → all_below p n ≡ false → (first_failing p n < n) × (all_below p (first_failing p n) ≡ true) × (p (first_failing p n) ≡ false)
 unfolding all_below first_failing
 first_failing_lem p zero h = let z : ◌≡◌ {A = ℕ} 0 1 = cc in absurd (let y : ⊥ = omega arith in y)
-first_failing_lem p (suc n) h = go (true_or_false (all_below p n)) (first_failing_lem p n)
+first_failing_lem p (suc n) h = go (cases_Bool (all_below p n)) (first_failing_lem p n)
   where
     First : ℕ → ℕ → Type 0
     First k limit = (k < limit) × (all_below p k ≡ true) × (p k ≡ false)

@@ -7,10 +7,10 @@ use mathlib.Core.Logic.{◌⊎◌, inl, inr}
 use mathlib.Core.Bool.{Bool, true, false, cond}
 use lib.Dec.{ltb}
 use borrow.Author.Tests.{ltb-true, ltb-false}
-use Rattle.booleans.proofs.Booleans.{true_false}
+use Rattle.std.proofs.lemmas.Bool.{both_ways, cases_lt}
 use Rattle.sequences.specs.Range.{some_below}
 use Rattle.sequences.specs.Search.{first_below, First}
-use Rattle.sequences.proofs.Range.{last_or_below, below_or_from, some_below_at}
+use Rattle.sequences.proofs.Range.{last_or_below, some_below_at}
 
 -- it is what its name says
 pub first_below_lem : (p : ℕ → Bool) (n : ℕ) → First p n (first_below p n)
@@ -36,8 +36,8 @@ first_below_lem p (suc n) = go (ltb (first_below p n) n) refl (p n) refl (first_
 
 -- where some number passes, the first is found
 pub first_found : (p : ℕ → Bool) (n : ℕ) → some_below p n ≡ true → (first_below p n < n) × (p (first_below p n) ≡ true)
-first_found p n h = go (below_or_from (first_below p n) n)
+first_found p n h = go (cases_lt (first_below p n) n)
   where
     go : (first_below p n < n) ⊎ (n ≤ first_below p n) → (first_below p n < n) × (p (first_below p n) ≡ true)
     go (inl lt) = (lt, (first_below_lem p n).passes lt)
-    go (inr le) = let r = some_below_at p n h in absurd (true_false (p r.0) r.2 ((first_below_lem p n).none_before r.0 (omega (arith, r.1))))
+    go (inr le) = let r = some_below_at p n h in absurd (both_ways (p r.0) ((first_below_lem p n).none_before r.0 (omega (arith, r.1))) r.2)

@@ -9,8 +9,7 @@ use native.Mathlib.Decide.{dec_lt}
 use native.Mathlib.Numerals.{add-one, add-two}
 use mathlib.Core.Path.{◌≡◌, refl, sym, ap, subst, ◌∙◌}
 use mathlib.Core.Logic.{◌⊎◌, inl, inr, ◌≢◌}
-use mathlib.Core.Bool.{false}
-use mathlib.Core.List.{List, [], ◌∷◌, ◌++◌, map, append-nil, append_assoc, Memᴰ}
+use mathlib.Core.List.{List, [], ◌∷◌, ◌++◌, append-nil, append_assoc, Memᴰ}
 use lib.ListN.{length, get_or, set, take, drop, length-append, length-drop, length-set, get_or-append, drop_of_length-le}
 use lib.Seq.{ext_get_or, get_or-append-add, get_or-take, get_or-drop, drop-drop, length-take-le, get_or-set_same, get_or-set_other, take_at, drop_at, slice, sets, take-nil}
 use Rattle.sequences.specs.Range.{Updated}
@@ -214,10 +213,3 @@ module _ {A : Type 0} where
   -- and nothing is left over
   pub overwritten_whole : {new old now : List A} {k : ℕ} {d : A} → length new ≡ k → length old ≡ k → Overwritten new old now k d → now ≡ new
   overwritten_whole {new} {old} e f o = overwritten_all e (omega arith) o ∙ overwrite_whole new old (omega arith)
-
-module _ {A B : Type 0} where
-  -- an element of a mapped list, whatever the two defaults
-  pub get_d_map : (f : A → B) (l : List A) (i : ℕ) (d : A) (e : B) → i < length l → get_or (map f l) i e ≡ f (get_or l i d)
-  get_d_map f [] i d e h = absurd (not-suc-le-zero h)
-  get_d_map f (x ∷ xs) zero d e h = refl
-  get_d_map f (x ∷ xs) (suc i) d e h = get_d_map f xs i d e (le_of_suc-le-suc h)

@@ -7,6 +7,7 @@ use Prim.Native.Nat.{ℕ}
 use lib.IntN.{ℤ}
 use lib.Ieee.{Float, nan, inf, fin, Format, binary64, add, mul, le, lt, eq}
 use lib.Ieee.Scale.{finite}
+use Rattle.std.proofs.lemmas.Bool.{and_right}
 use Rattle.vector.specs.declared.Vector3.{Vector3}
 use Rattle.vector.specs.Vector.{squared_length}
 use Rattle.vector.specs.Direction.{admissible, least_squared_length, greatest_squared_length}
@@ -54,16 +55,12 @@ unbounded_above (inf false) s m e infinite = refl
 unbounded_above (inf true) s m e x4 = elim x4 [ ]
 unbounded_above (fin _ _ _) s m e x6 = elim x6 [ ]
 
-false_last : (p q : Bool) → q ≡ false → (p && q) ≡ false
-false_last true q e = e
-false_last false q e = refl
-
 -- three tests that fail only where the last one does may be left out
 redundant : (a b c p q : Bool) → (a ≡ false → q ≡ false) → (b ≡ false → q ≡ false) → (c ≡ false → q ≡ false) → (p && q) ≡ (a && b && c && (p && q))
 redundant true true true p q h i j = refl
-redundant true true false p q h i j = false_last p q (j refl)
-redundant true false c p q h i j = false_last p q (i refl)
-redundant false b c p q h i j = false_last p q (h refl)
+redundant true true false p q h i j = and_right p q (j refl)
+redundant true false c p q h i j = and_right p q (i refl)
+redundant false b c p q h i j = and_right p q (h refl)
 
 -- the comparisons of the squared length decide alone
 pub admissible_by_length : (v : Vector3) → (le least_squared_length (squared_length v) && le (squared_length v) greatest_squared_length) ≡ admissible v

@@ -8,10 +8,10 @@ use lib.Ieee.Bits.{is_true}
 use lib.Ieee.Fits.{and_i, mul-fits, add-fits}
 use lib.Ieee.Positive.{positive, positive-finite}
 use lib.Ieee.Scale.{finite}
+use Rattle.std.proofs.lemmas.Float.{le_trans}
 use Rattle.binary64.specs.Absolute.{abs}
 use Rattle.binary64.proofs.Absolute.{abs_finite, abs_bounded_finite, abs_of_positive, abs_div}
-use Rattle.binary64.proofs.FloatOrder.{le_not_lt}
-use Rattle.binary64.proofs.LessThan.{le_transitive, le_total}
+use Rattle.binary64.proofs.FloatOrder.{le_not_lt, le_total}
 use Rattle.binary64.proofs.NotNan.{Signed, finite_number, signed_finite, square_signed, add_signed}
 use Rattle.binary64.proofs.SignedOrder.{positive_not_below}
 use Rattle.rounding.proofs.Exact.{first_term_at_most, second_term_at_most}
@@ -102,13 +102,13 @@ module _ (v : Vector3) where
 
         go : Reaches b v → T (le square (squared_length v))
         go (along_x t) =
-            le_transitive square xSquare (squared_length v) (square_at_least v.x b f.x_finite B t)
-            (le_transitive xSquare (add binary64 xSquare ySquare) (squared_length v) (first_term_at_most binary64 (mul-fits binary64 v.x v.x) (x_signed f) (y_signed f)) xy_at_most)
+            le_trans square xSquare (squared_length v) (square_at_least v.x b f.x_finite B t)
+            (le_trans xSquare (add binary64 xSquare ySquare) (squared_length v) (first_term_at_most binary64 (mul-fits binary64 v.x v.x) (x_signed f) (y_signed f)) xy_at_most)
         go (along_y t) =
-            le_transitive square ySquare (squared_length v) (square_at_least v.y b f.y_finite B t)
-            (le_transitive ySquare (add binary64 xSquare ySquare) (squared_length v) (second_term_at_most binary64 (mul-fits binary64 v.y v.y) (x_signed f) (y_signed f)) xy_at_most)
+            le_trans square ySquare (squared_length v) (square_at_least v.y b f.y_finite B t)
+            (le_trans ySquare (add binary64 xSquare ySquare) (squared_length v) (second_term_at_most binary64 (mul-fits binary64 v.y v.y) (x_signed f) (y_signed f)) xy_at_most)
         go (along_z t) =
-            le_transitive square zSquare (squared_length v) (square_at_least v.z b f.z_finite B t)
+            le_trans square zSquare (squared_length v) (square_at_least v.z b f.z_finite B t)
             (second_term_at_most binary64 (mul-fits binary64 v.z v.z) (xy_signed f) (z_signed f))
 
     -- ---- and back: a short vector has no long component, and a long one has a component that is not short
@@ -140,8 +140,8 @@ module _ (v : Vector3) where
   admissible_of_extent least most L M one-finite two_finite low high within reaches =
       subst T (admissible_by_length v)
       (and_i (le least_squared_length (squared_length v)) (le (squared_length v) greatest_squared_length)
-      (le_transitive least_squared_length (mul binary64 least least) (squared_length v) low (squared_length_at_least least L (within_finite (positive-finite most M) within) reaches))
-      (le_transitive (squared_length v) (three_squares most) greatest_squared_length (squared_length_at_most most M one-finite two_finite within) high))
+      (le_trans least_squared_length (mul binary64 least least) (squared_length v) low (squared_length_at_least least L (within_finite (positive-finite most M) within) reaches))
+      (le_trans (squared_length v) (three_squares most) greatest_squared_length (squared_length_at_most most M one-finite two_finite within) high))
 
 -- ---- a vector divided by what lies between two bounds
 quotient_at_most : (x most divisor low : Float) → T (positive most) → T (positive divisor) → T (positive low) → T (le low divisor) → T (le (abs x) most) → T (le (abs (div binary64 x divisor)) (div binary64 most low))
@@ -149,7 +149,7 @@ quotient_at_most x most divisor low M D L h within =
     let m-finite = positive-finite most M in
     let x_finite = abs_bounded_finite x most m-finite within in
     rw (abs_div binary64 x divisor x_finite D)
-    (le_transitive (div binary64 (abs x) divisor) (div binary64 most divisor) (div binary64 most low)
+    (le_trans (div binary64 (abs x) divisor) (div binary64 most divisor) (div binary64 most low)
     (div_monotone binary64 (abs x) most divisor (abs_finite x x_finite) m-finite D within)
     (div_antitone binary64 most low divisor m-finite (positive_not_below most M) L D h))
 
@@ -157,7 +157,7 @@ quotient_at_least : (x least divisor high : Float) → T (finite x) → T (posit
 quotient_at_least x least divisor high X L D H h reaches =
     let l-finite = positive-finite least L in
     rw (abs_div binary64 x divisor X D)
-    (le_transitive (div binary64 least high) (div binary64 least divisor) (div binary64 (abs x) divisor)
+    (le_trans (div binary64 least high) (div binary64 least divisor) (div binary64 (abs x) divisor)
     (div_antitone binary64 least divisor high l-finite (positive_not_below least L) D H h)
     (div_monotone binary64 least (abs x) divisor l-finite (abs_finite x X) D reaches))
 

@@ -5,11 +5,11 @@ use mathlib.Core.Bool.{true, false}
 use lib.Dec.{T}
 use lib.IntN.{ℤ, pos, negsuc}
 use lib.Ieee.{Float, fin, binary64, add, mul, div, lt, le, round, is_nan}
-use lib.Ieee.Bits.{is_true}
+use lib.Ieee.Bits.{is_true, is_false}
 use lib.Ieee.Positive.{positive, between}
 use lib.Ieee.Scale.{finite}
-use Rattle.binary64.proofs.FloatOrder.{le_right_number}
-use Rattle.binary64.proofs.LessThan.{le_lt_transitive, lt_le_transitive, le_transitive, le_total}
+use Rattle.std.proofs.lemmas.Float.{T_from_true, le_right, le_trans, lt_of_lt_of_le, lt_of_le_of_lt}
+use Rattle.binary64.proofs.FloatOrder.{le_total}
 use Rattle.root.specs.Root.{square_root}
 use Rattle.root.proofs.Monotone.{square_root_monotone}
 use Rattle.vector.specs.declared.Vector3.{Vector3}
@@ -32,7 +32,7 @@ module _ (low high shortest longest : Float) (L : T (positive low)) (H : T (posi
   length_not_below = subst (λ (z : Float). T (le z (length_of v))) root-low (square_root_monotone binary64 (mul binary64 low low) (squared_length v) low-not-below not_below)
 
   length_not_above : T (le (length_of v) high)
-  length_not_above = subst (λ (z : Float). T (le (length_of v) z)) root-high (square_root_monotone binary64 (squared_length v) (mul binary64 high high) (le_transitive _ _ _ low-not-below not_below) not_above)
+  length_not_above = subst (λ (z : Float). T (le (length_of v) z)) root-high (square_root_monotone binary64 (squared_length v) (mul binary64 high high) (le_trans _ _ _ low-not-below not_below) not_above)
 
   length_positive : T (positive (length_of v))
   length_positive = between low (length_of v) high L H length_not_below length_not_above
@@ -41,13 +41,13 @@ module _ (low high shortest longest : Float) (L : T (positive low)) (H : T (posi
   normalized_within =
       subst (λ (z : Float). Within z (normalized v)) most
       (quotient_within v longest (length_of v) low M length_positive L length_not_below
-      (within_of_squared_length v longest M f (le_lt_transitive (squared_length v) (mul binary64 high high) (mul binary64 longest longest) (is_true _ not_above) beyond)))
+      (within_of_squared_length v longest M f (is_true _ (lt_of_le_of_lt (squared_length v) (mul binary64 high high) (mul binary64 longest longest) not_above (T_from_true _ beyond)))))
 
   normalized_reaches : Reaches (two_to (negsuc 10)) (normalized v)
   normalized_reaches =
       subst (λ (z : Float). Reaches z (normalized v)) least
       (quotient_reaches v shortest (length_of v) high f S length_positive H length_not_above
-      (reaches_of_squared_length v shortest S one-finite two_finite f (lt_le_transitive (three_squares shortest) (mul binary64 low low) (squared_length v) short (is_true _ not_below))))
+      (reaches_of_squared_length v shortest S one-finite two_finite f (is_true _ (lt_of_lt_of_le (three_squares shortest) (mul binary64 low low) (squared_length v) (T_from_true _ short) not_below))))
 
   in_band : T (admissible (normalized v))
   unfolding mul add le round
@@ -87,4 +87,4 @@ admissible_normalised v t =
     f = parts.components
 
     number : is_nan (squared_length v) ≡ false
-    number = le_right_number least_squared_length (squared_length v) (is_true _ parts.not_below)
+    number = is_false _ (le_right least_squared_length (squared_length v) parts.not_below)

@@ -7,7 +7,7 @@ use mathlib.Core.Logic.{◌⊎◌, inl, inr}
 use mathlib.Core.Bool.{true, false}
 use mathlib.Core.List.{List, [], Memᴰ}
 use lib.ListN.{length, replicate, length-replicate, get_or-replicate}
-use Rattle.booleans.proofs.Booleans.{true_or_false}
+use Rattle.std.proofs.lemmas.Bool.{cases_Bool}
 use Rattle.sequences.specs.Ascending.{is_member}
 use Rattle.sequences.specs.Permutation.{at, IsPermutation, inverse}
 use Rattle.sequences.proofs.Tabulate.{length_tabulate, tabulate_at, tabulate_unique, member_get_d, get_d_member}
@@ -23,7 +23,7 @@ length_order n q = length_tabulate n (place_from 0 q)
 
 pub number_of_absent : (n : ℕ) (q : List ℕ) (v : ℕ) → v < n → (Memᴰ v q → ⊥) → at (order_of n q) v ≡ unreached
 unfolding order_of
-number_of_absent n q v lt absent = tabulate_at n (place_from 0 q) v 0 lt ∙ go (true_or_false (is_member v q))
+number_of_absent n q v lt absent = tabulate_at n (place_from 0 q) v 0 lt ∙ go (cases_Bool (is_member v q))
   where
     go : (is_member v q ≡ true) ⊎ (is_member v q ≡ false) → place_from 0 q v ≡ unreached
     go (inl e) = absurd (absent (is_member_true v q e))

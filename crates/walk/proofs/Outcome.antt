@@ -8,7 +8,7 @@ use mathlib.Core.List.{List, ◌++◌}
 use lib.Dec.{leb}
 use lib.ListN.{length, drop}
 use borrow.Author.Tests.{le-leb, lt-leb, eq-eqb, ne_eqb}
-use Rattle.booleans.proofs.Booleans.{and_intro, and_right_fails}
+use Rattle.std.proofs.lemmas.Bool.{and_from, and_right}
 use Rattle.sequences.specs.Tabulate.{overwrite}
 use Rattle.sequences.specs.Starts.{part}
 use Rattle.refusal.specs.declared.Refusal.{Refusal}
@@ -55,14 +55,14 @@ module _ (m : Mesh) (order queue : List ℕ) where
 
     pub outcome_queue_short : length queue < count m → walk_outcome (Err Room) order queue ≡ bfs_vertex_permutation m order queue
     unfolding walk_fits
-    outcome_queue_short short = outcome_short (and_right_fails (leb (count m) (length order)) (leb (count m) (length queue)) (lt-leb (count m) (length queue) short))
+    outcome_queue_short short = outcome_short (and_right (leb (count m) (length order)) (leb (count m) (length queue)) (lt-leb (count m) (length queue) short))
 
     -- there is room, and the walk was made
     module _ (order_room : count m ≤ length order) (queue_room : count m ≤ length queue) {reach : Reach} {left filled : List ℕ}
         (done : Traversed (count m) (part m.starts m.entries) queue reach left filled) where
       made : walked m order queue ≡ bfs_vertex_permutation m order queue
       unfolding walk_fits
-      made = outcome_made (and_intro (leb (count m) (length order)) (leb (count m) (length queue)) (le-leb (count m) (length order) order_room) (le-leb (count m) (length queue) queue_room))
+      made = outcome_made (and_from (leb (count m) (length order)) (leb (count m) (length queue)) (le-leb (count m) (length order) order_room) (le-leb (count m) (length queue) queue_room))
 
       order_left : left ++ drop (count m) order ≡ overwrite (order_of (count m) (breadth_first (count m) (neighbours m)).queue) order
       unfolding overwrite neighbours

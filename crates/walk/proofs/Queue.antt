@@ -13,7 +13,7 @@ use lib.Dec.{eqb}
 use lib.ListN.{length, get_or, set, take, drop, length-append, length-set, get_or-append}
 use lib.Seq.{drop-cons, drop-drop, drop-append-add, append_snoc, set-append_seam, take-suc, get_or-set_same, get_or-set_other}
 use borrow.Author.Tests.{eq-eqb, ne_eqb, eqb-true}
-use Rattle.booleans.proofs.Booleans.{true_or_false}
+use Rattle.std.proofs.lemmas.Bool.{cases_Bool}
 use Rattle.sequences.specs.Tabulate.{tabulate, overwrite}
 use Rattle.sequences.specs.Ascending.{is_member}
 use Rattle.sequences.specs.Permutation.{IsPermutation}
@@ -185,14 +185,14 @@ module _ {n : ℕ} {q old : List ℕ} {reached : ℕ} {order queue : List ℕ} (
   number_at = ap (λ (l : List ℕ). get_or l v 0) h.numbered ∙ tabulate_at n (place_from 0 q) v 0 lt
 
   numbered_member : get_or order v 0 ≢ unreached → is_member v q ≡ true
-  numbered_member ne = go (true_or_false (is_member v q))
+  numbered_member ne = go (cases_Bool (is_member v q))
     where
       go : (is_member v q ≡ true) ⊎ (is_member v q ≡ false) → is_member v q ≡ true
       go (inl e) = e
       go (inr e) = absurd (ne (number_at ∙ place_of_absent 0 q v e))
 
   unnumbered_absent : get_or order v 0 ≡ unreached → is_member v q ≡ false
-  unnumbered_absent e = go (true_or_false (is_member v q))
+  unnumbered_absent e = go (cases_Bool (is_member v q))
     where
       go : (is_member v q ≡ true) ⊎ (is_member v q ≡ false) → is_member v q ≡ false
       go (inr m) = m

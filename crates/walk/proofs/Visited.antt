@@ -8,15 +8,17 @@ use mathlib.Core.Path.{◌≡◌, refl, sym, ap, ◌∙◌, subst}
 use mathlib.Core.Bool.{Bool, true, false, cond}
 use mathlib.Core.List.Memᴰ
 use mathlib.Core.List.{List, [], ◌∷◌, ◌++◌, Memᴰ}
-use lib.ListN.{length, get_or, take, drop}
+use lib.ListN.{length, get_or}
 use borrow.Author.Tests.{lt-ltb, le-ltb}
 use Rattle.sequences.specs.Range.{sum_below}
 use Rattle.sequences.specs.Ascending.{is_member}
 use Rattle.sequences.specs.Starts.{start_of, part}
 use Rattle.sequences.proofs.Range.{sum_extensional, sum_injection}
-use Rattle.sequences.proofs.Tabulate.{member_get_d, slice_as_take}
-use Rattle.sequences.proofs.Starts.{part_member, part_start, part_length, rows_within}
+use Rattle.sequences.proofs.Tabulate.{member_get_d}
+use Rattle.sequences.proofs.Starts.{part_member, part_start}
 use Rattle.sequences.proofs.Permutation.{permutation_bijection, sum_bijection}
+use Rattle.mesh.specs.Mesh.{HasList}
+use Rattle.mesh.proofs.Neighbours.{has_list}
 use Rattle.walk.specs.Walk.{enter, entered, Visit, leave, visited, breadth_first}
 use Rattle.walk.specs.Buffers.{DistinctIds, Walkable, Holding}
 use Rattle.walk.proofs.Queue.{entered_longer, entered_keeps, ids_injective, ids_below_lem, ids_with_absent, ids_permutation, holding_at, holding_below}
@@ -125,27 +127,21 @@ module _ {starts entries order queue : List ℕ} (h : Walkable starts entries or
       let s = part_start (length order) starts entries h.rows (length order) (omega arith) in
       omega (arith, h.rows.last)
 
--- a turn of the walk over compressed rows, at place k of the queue, where v stands: its list is the part of the entries that is handed on
+-- a turn of the walk over compressed rows, at place k of the queue, where v stands: its list is read
 pub record Turn (n k : ℕ) (starts entries : List ℕ) (v read : ℕ) : Type 0 where
   pub vertex_below : v < n
-  pub starts_length : length starts ≡ suc n
-  pub ascend : get_or starts v 0 ≤ get_or starts (v + 1) 0
-  pub within : get_or starts (v + 1) 0 ≤ length entries
-  pub handed : take (get_or starts (v + 1) 0 - get_or starts v 0) (drop (get_or starts v 0) entries) ≡ part starts entries v
+  pub listed : HasList starts entries v
   pub queue_next : (visited (part starts entries) (k + 1)).queue ≡ entered (visited (part starts entries) k).queue (part starts entries v)
-  pub read_next : read + (get_or starts (v + 1) 0 - get_or starts v 0) ≡ (visited (part starts entries) (k + 1)).entries_read
-  pub read_within : read + (get_or starts (v + 1) 0 - get_or starts v 0) ≤ length entries
+  pub read_next : read + length (part starts entries v) ≡ (visited (part starts entries) (k + 1)).entries_read
+  pub read_within : read + length (part starts entries v) ≤ length entries
 
 pub turn_at : {starts entries order₀ queue₀ : List ℕ} → Walkable starts entries order₀ queue₀ → {k reached read : ℕ} {old order queue : List ℕ}
     → Holding (length order₀) (visited (part starts entries) k).queue old reached order queue → k < reached → read ≡ (visited (part starts entries) k).entries_read
     → Turn (length order₀) k starts entries (get_or queue k 0) read
-unfolding part
 turn_at {starts} {entries} {order₀} w {k} {reached} {read} {queue} h lt e =
     let lists = part starts entries in
     let v = get_or queue k 0 in
     let below = holding_below h k lt in
-    let up : get_or starts v 0 ≤ get_or starts (v + 1) 0 = rw add-one (w.rows.ascend v below) in
-    let span : length (part starts entries v) ≡ get_or starts (v + 1) 0 - get_or starts v 0 = rw add-one (part_length (length order₀) starts entries w.rows v below) in
     let next = visited_turn lists k (omega (arith, h.size)) in
     let same : get_or (visited lists k).queue k 0 ≡ v = sym (holding_at h k lt) in
     let queue_next : (visited lists (k + 1)).queue ≡ entered (visited lists k).queue (lists v) = ap (λ (u : Visit). u.queue) next ∙ ap (λ (x : ℕ). entered (visited lists k).queue (lists x)) same in
@@ -155,10 +151,7 @@ turn_at {starts} {entries} {order₀} w {k} {reached} {read} {queue} h lt e =
     let all = walkable_read w (k + 1) (let r = ap length queue_next in omega (arith, h.size)) in
     record {
       vertex_below = below;
-      starts_length = w.rows.size;
-      ascend = up;
-      within = rw add-one (rows_within (length order₀) starts entries w.rows (suc v) below);
-      handed = rw add-one (sym (slice_as_take (get_or starts v 0) (get_or starts (suc v) 0) entries));
+      listed = has_list w.rows v below;
       queue_next = queue_next;
       read_next = omega arith;
       read_within = omega arith;

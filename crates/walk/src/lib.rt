@@ -2,13 +2,13 @@
 #![tactic(auto)]
 
 ghost use Rattle.std.specs.Prelude.{ℕ, ◌≤◌, ◌<◌, ◌≡◌, length, take};
-ghost use mathlib.Core.List.{[], ◌∷◌, Memᴰ};
+ghost use mathlib.Core.List.{Memᴰ};
 ghost use Rattle.sequences.specs.Starts.{part};
 ghost use Rattle.mesh.specs.Mesh.{mesh_of};
-ghost use Rattle.walk.specs.Walk.{entered, unreached, order_of, walk_outcome, bfs_vertex_permutation};
+ghost use Rattle.walk.specs.Walk.{entered, unreached, walk_outcome, bfs_vertex_permutation};
 ghost use Rattle.walk.specs.Buffers.{Holding, Walkable, Traversed};
 
-use mesh::Mesh;
+use mesh::{Mesh, list_of};
 use refusal::Refusal;
 
 // How many vertices entered the queue, and how many entries were read.
@@ -23,7 +23,7 @@ pub struct Reach {
 const UNREACHED: u32 = u32::MAX;
 
 // The ids of a list that have not entered yet enter behind the first `reached` places of the queue, and are numbered as they enter.
-// The queue is lent whole, as C lends it: how far it is filled stands beside it.
+// Order and queue stand apart, as C lends them, and the queue is whole: how far it is filled stands beside it.
 fn enter_list(list: &[u16], order: &mut [u32], queue: &mut [u32], reached: usize) -> usize
     requires room { length order.old ≤ length queue.old }
     requires few { length order.old ≤ unreached }
@@ -36,7 +36,7 @@ fn enter_list(list: &[u16], order: &mut [u32], queue: &mut [u32], reached: usize
         let v = id as usize;
         if order[v] == UNREACHED {
             order[v] = count as u32;
-            queue[count] = v as u32;
+            queue[count] = u32::from(id);
             count += 1;
         }
     }
@@ -44,7 +44,7 @@ fn enter_list(list: &[u16], order: &mut [u32], queue: &mut [u32], reached: usize
 }
 
 // The walk over compressed rows from vertex 0: the list of each vertex is read in the order in which the vertices entered. The order has one
-// place a vertex, and the queue no fewer.
+// place a vertex, and the queue no fewer. No `Mesh`: a walk reads no positions.
 pub fn breadth_first(starts: &[u32], entries: &[u16], order: &mut [u32], queue: &mut [u32]) -> Reach
     requires { Walkable starts.now entries.now order.old queue.old }
     ensures { Traversed (length order.old) (part starts.now entries.now) queue.old result order.new queue.new }
@@ -57,11 +57,9 @@ pub fn breadth_first(starts: &[u32], entries: &[u16], order: &mut [u32], queue: 
     let mut read = 0;
     // The queue grows while it is read, so that no range or slice of it has its places beforehand.
     while head < reached {
-        let v = queue[head] as usize;
-        let start = starts[v] as usize;
-        let end = starts[v + 1] as usize;
-        reached = enter_list(&entries[start..end], order, queue, reached);
-        read += end - start;
+        let list = list_of(starts, entries, queue[head] as usize);
+        reached = enter_list(list, order, queue, reached);
+        read += list.len();
         head += 1;
     }
     Reach {
@@ -71,7 +69,7 @@ pub fn breadth_first(starts: &[u32], entries: &[u16], order: &mut [u32], queue: 
 }
 
 // The breadth-first order of a mesh's vertices: the new id at each old one, and in the queue the old id at each new one. Answers the count of
-// entries read. The mesh rows 2 to 4 and row 8 change nothing; row 13 leaves what was reached.
+// entries read. The mesh rows 2 to 4 and row 8 change nothing; row 13 leaves what was reached. The slices stand apart, as C lends them.
 pub fn bfs_vertex_permutation(
     positions: &[f64],
     starts: &[u32],

@@ -1,5 +1,4 @@
 pub mod Order
-pub mod Product
 pub mod StickyShift
 pub mod Shift
 pub mod LeadingZeros

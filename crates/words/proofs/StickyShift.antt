@@ -1,18 +1,15 @@
 -- A number divided by D, its last bit also set where the division is not exact, is sticky-equivalent to the fraction. Such shifts compose, and the units may be changed. Assumes nothing.
-use Rattle.std.proofs.Common.{◌≡◌, ℕ, ◌+◌, ◌*◌, ◌/◌, ◌%◌, ◌^◌, ◌<◌, ◌≤◌, sym, ap, ◌∙◌, subst, inl, inr, lt_of_le_of_lt, add-zero, lt_irrefl, mod-eq_of_lt, mul_assoc, mul_comm, eq-zero-or-pos, mul-pos, div-add-mod', zero-mul, mul_right_comm, mul_left_comm, arith}
+use Rattle.std.proofs.Common.{◌≡◌, ℕ, ◌+◌, ◌*◌, ◌/◌, ◌%◌, ◌^◌, ◌<◌, ◌≤◌, sym, ap, ◌∙◌, lt_of_le_of_lt, add-zero, mod-eq_of_lt, mul_assoc, mul_comm, mul-pos, div-add-mod', zero-mul, mul_right_comm, mul_left_comm, arith}
 use native.Mathlib.Nat.{div-div-eq-div-mul, div-eq_of_lt, mul-mod_left, eq_of_mul-eq-mul_right}
 use lib.Arith.{mod-mul}
 use lib.Ieee.Nearest.{div_same}
 use Rattle.words.specs.Sticky.{StickyEquivalent}
 
 -- ---- n is a multiple of m * c where n / c is one of m, and n one of c
-times_zero : (x c : ℕ) → 0 < c → x * c ≡ 0 → x ≡ 0
-times_zero x c C h = elim (eq-zero-or-pos x) [ inl z ↦ z | inr p ↦ absurd (lt_irrefl 0 (subst (λ (y : ℕ). 0 < y) h (mul-pos p C))) ]
-
 pub multiple_split : (n m c : ℕ) → 0 < m → 0 < c → n % (m * c) ≡ 0 → (n / c % m ≡ 0) × (n % c ≡ 0)
 multiple_split n m c M C h =
     let e : n / c % m * c + n % c ≡ 0 = sym (mod-mul n M C) ∙ h in
-    (times_zero (n / c % m) c C (omega arith), omega arith)
+    (eq_of_mul-eq-mul_right c C (n / c % m) 0 (omega arith), omega arith)
 
 pub multiple_join : (n m c : ℕ) → 0 < m → 0 < c → n / c % m ≡ 0 → n % c ≡ 0 → n % (m * c) ≡ 0
 multiple_join n m c M C h k = mod-mul n M C ∙ ap (λ (x : ℕ). x * c + n % c) h ∙ ap (λ (x : ℕ). 0 * c + x) k ∙ zeros c

@@ -9,6 +9,7 @@ ghost use Rattle.words.specs.Sticky.{StickyEquivalent};
 use std::ops::{Add, Sub};
 
 // The number hi * 2^64 + lo. The high word is first, so that the derived order is that of the numbers.
+// Two words, and a u128 for a product alone: document 01 asks for sums whose carry is taken from the low word.
 #[derive(Clone, Copy, PartialEq, Eq, PartialOrd, Ord)]
 pub struct TwoWords {
     pub hi: u64,
@@ -56,27 +57,21 @@ impl Sub for TwoWords {
 }
 
 // x where `first` holds, and else y, for two values that are both worked out: this leaves a
-// processor no branch to foresee.
+// processor no branch to foresee. A test and no closure, since no step is chosen.
 pub fn choose<T: Copy>(first: bool, x: T, y: T) -> T
     ensures { result ≡ (if first then x else y) }
 {
     if first { x } else { y }
 }
 
-// The exact product, by halves of 32 bits.
+// The exact product. Its low word is the rest by 2^64, since a cast asks that the number fits.
 pub fn multiply(a: u64, b: u64) -> TwoWords
     ensures { value result ≡ a * b }
 {
-    let a0 = a % 0x1_0000_0000;
-    let a1 = a / 0x1_0000_0000;
-    let b0 = b % 0x1_0000_0000;
-    let b1 = b / 0x1_0000_0000;
-    let low = a0 * b0;
-    let middle = a1 * b0 + low / 0x1_0000_0000;
-    let cross = middle % 0x1_0000_0000 + a0 * b1;
+    let product = u128::from(a) * u128::from(b);
     TwoWords {
-        hi: a1 * b1 + middle / 0x1_0000_0000 + cross / 0x1_0000_0000,
-        lo: cross % 0x1_0000_0000 * 0x1_0000_0000 + low % 0x1_0000_0000,
+        hi: (product >> 64) as u64,
+        lo: (product % (1 << 64)) as u64,
     }
 }
 

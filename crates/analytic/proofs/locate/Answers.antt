@@ -2,7 +2,7 @@
 use Rattle.std.proofs.Common.{sym}
 use Rattle.std.proofs.lemmas.Result.{err_from_is_err_and}
 use Rattle.icosahedron.proofs.Range.{frequency_passed, frequency_refused}
-use Rattle.analytic.proofs.Answers.{direction_passed, direction_refused, face_below, face_refused, refused_1, refused_8, refused_9, refused_10, answered}
+use Rattle.analytic.proofs.Answers.{direction_passed, direction_refused, face_refused, refused_1, refused_8, refused_9, refused_10, answered}
 use Rattle.analytic.proofs.locate.Goals as goal
 
 pub returns-in_err-lattice : goal.returns-in_err-lattice
@@ -28,20 +28,14 @@ returns-in_err-p c =
     let p = err_from_is_err_and c.from_residual-in_err-p.result c.from_residual-in_err-p.ensures.1 in
     rw (p.1, p.2, d.1) (refused_9 s.frequency s.id_table.now s.direction f.1 (rw f.0 at c.in_ok-table.ensures.2) d.0)
 
-pub returns-in_err-index : goal.returns-in_err-index
-returns-in_err-index c =
+pub returns-in_err-face : goal.returns-in_err-face
+returns-in_err-face c =
     let s = c.args in
     let f = frequency_passed s.frequency _ c.in_ok-lattice.ensures in
     let d = direction_passed s.direction _ c.in_ok-p.ensures in
-    let none = face_refused s.direction _ (rw d.1 at (sym c.in_err-index.ensures)) in
-    let p = err_from_is_err_and c.from_residual-in_err-index.result c.from_residual-in_err-index.ensures.1 in
+    let none = face_refused s.direction _ (rw d.1 at (sym c.in_err-face.ensures)) in
+    let p = err_from_is_err_and c.from_residual-in_err-face.result c.from_residual-in_err-face.ensures.1 in
     rw (p.1, p.2, none.1) (refused_10 s.frequency s.id_table.now s.direction f.1 (rw f.0 at c.in_ok-table.ensures.2) d.0 none.0)
-
-pub master_face_of-requires : goal.master_face_of-requires
-master_face_of-requires c = face_below c.in_ok-p.p c.in_ok-index.index c.in_ok-index.ensures
-
-pub invariant_of-face : goal.invariant_of-face
-invariant_of-face c = record { in_range = face_below c.in_ok-p.p c.in_ok-index.index c.in_ok-index.ensures }
 
 pub returns-then-not-triple_below : goal.returns-then-not-triple_below
 returns-then-not-triple_below c =
@@ -49,7 +43,7 @@ returns-then-not-triple_below c =
     let on_face = rw c.master_face_of.ensures at c.sub_triangle_on-t.ensures in
     let below = rw c.vertex_count.ensures at c.triple_below.ensures in
     rw c.if-not-triple_below.true at
-    (answered c.args.frequency _ _ c.args.id_table.now _ c.args.direction _ _ _ _ _ c.in_ok-lattice.ensures t.0 t.1 t.2 c.in_ok-p.ensures c.in_ok-index.ensures on_face c.corner_ids-triple.ensures below)
+    (answered c.args.frequency _ _ c.args.id_table.now _ c.args.direction _ _ _ _ _ c.in_ok-lattice.ensures t.0 t.1 t.2 c.in_ok-p.ensures c.in_ok-face.ensures on_face c.corner_ids-triple.ensures below)
 
 pub returns : goal.returns
 returns c =
@@ -57,4 +51,4 @@ returns c =
     let on_face = rw c.master_face_of.ensures at c.sub_triangle_on-t.ensures in
     let below = rw c.vertex_count.ensures at c.triple_below.ensures in
     rw c.if-not-triple_below.false at
-    (answered c.args.frequency _ _ c.args.id_table.now _ c.args.direction _ _ _ _ _ c.in_ok-lattice.ensures t.0 t.1 t.2 c.in_ok-p.ensures c.in_ok-index.ensures on_face c.corner_ids-triple.ensures below)
+    (answered c.args.frequency _ _ c.args.id_table.now _ c.args.direction _ _ _ _ _ c.in_ok-lattice.ensures t.0 t.1 t.2 c.in_ok-p.ensures c.in_ok-face.ensures on_face c.corner_ids-triple.ensures below)

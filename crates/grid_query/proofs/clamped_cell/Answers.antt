@@ -7,15 +7,15 @@ use Rattle.grid_query.proofs.clamped_cell.Goals as goal
 
 pub clamp-clamped-requires : goal.clamp-clamped-requires
 unfolding of_bits
-clamp-clamped-requires c = zero_below_whole (c.args.side - 1) (omega arith)
+clamp-clamped-requires c = zero_below_whole (c.args.extent.side - 1) (omega arith)
 
 pub truncating_f64_to_u64-requires : goal.truncating_f64_to_u64-requires
 unfolding of_bits
 truncating_f64_to_u64-requires c =
-    let at_most : AtMost (c.args.side - 1) c.clamp-clamped.result = rw c.clamp-clamped.ensures.value (clamp_at_most (c.args.side - 1) c.args.x (omega arith)) in
+    let at_most : AtMost (c.args.extent.side - 1) c.clamp-clamped.result = rw c.clamp-clamped.ensures.value (clamp_at_most (c.args.extent.side - 1) c.args.x (omega arith)) in
     record {
       lower_bound = above_minus_one c.clamp-clamped.result c.if-clamped.true;
-      upper_bound = below_word (c.args.side - 1) c.clamp-clamped.result (omega arith) at_most c.if-clamped.true;
+      upper_bound = below_word (c.args.extent.side - 1) c.clamp-clamped.result (omega arith) at_most c.if-clamped.true;
     }
 
 pub returns-then-clamped : goal.returns-then-clamped

@@ -2,7 +2,8 @@
 use Rattle.std.proofs.Common.{rules, ℕ, Bool, true, false, ◌≡◌, refl, sym, subst, ap, ◌∙◌, ◌+◌, ◌-◌, ◌≤◌, ◌<◌, length, arith, add-one, get_or, drop, List, [], ◌∷◌, Bor, Some}
 use Rattle.std.specs.Bool.{MatchBool}
 use Rattle.std.specs.Iterator.{Yields}
-use Rattle.std.specs.Slice.Iter.{windows_rest, windows_size, windows_steps}
+use Rattle.std.specs.Slice.Iter.{windows_rest, windows_size}
+use Rattle.std.specs.Slice.ArrayWindows.{array_windows_parts, array_windows_steps}
 use Rattle.std.proofs.lemmas.Iterator.{window_more}
 use borrow.Author.Tests.{le-leb, lt-leb}
 use Rattle.sequences.proofs.Range.{all_below_intro, all_below_fails}
@@ -11,33 +12,40 @@ use Rattle.mesh.proofs.Falls.{fall_none}
 use Rattle.mesh.proofs.lists_limited.Goals as goal
 
 -- the windows that are left are those of the end of the starts
-left : (starts : List ℕ) (xs : List (Bor (List ℕ))) (s t : _) → Yields windows_steps s xs t → windows_size s ≡ 2
-    → length (windows_rest s) ≤ length starts → windows_rest s ≡ drop (length starts - length (windows_rest s)) starts
-    → (windows_size t ≡ 2) × (length (windows_rest t) ≤ length starts) × (windows_rest t ≡ drop (length starts - length (windows_rest t)) starts)
-left starts [] s t same two short e =
-    subst (λ u. (windows_size u ≡ 2) × (length (windows_rest u) ≤ length starts) × (windows_rest u ≡ drop (length starts - length (windows_rest u)) starts)) same (two, short, e)
-left starts (x ∷ xs) s t y two short e =
-    let m = window_more starts s y.0 (Some x) x refl y.1 (omega arith) short e in
-    left starts xs y.0 t y.2 (y.1.0 ∙ two) (omega (arith, m.0)) m.1
+record Left (starts rest : List ℕ) (size : ℕ) : Type 0 where
+  two : size ≡ 2
+  short : length rest ≤ length starts
+  end : rest ≡ drop (length starts - length rest) starts
+
+left : (starts : List ℕ) (xs : List (Bor (List ℕ))) (s t : _) → Yields (array_windows_steps {n = 2}) s xs t → Left starts (windows_rest (array_windows_parts s)) (windows_size (array_windows_parts s))
+    → Left starts (windows_rest (array_windows_parts t)) (windows_size (array_windows_parts t))
+left starts [] s t same l = subst (λ u. Left starts (windows_rest (array_windows_parts u)) (windows_size (array_windows_parts u))) same l
+left starts (x ∷ xs) s t y l =
+    let m = window_more starts (array_windows_parts s) (array_windows_parts y.0) (Some x) x refl y.1 (omega (arith, l.two)) l.short l.end in
+    left starts xs y.0 t y.2 (record { two = y.1.0 ∙ l.two; short = omega (arith, m.0, l.short); end = m.1 })
 
 pub all-requires-clause-callable : goal.all-requires-clause-callable
 all-requires-clause-callable c =
     let starts = c.args.starts.now in
-    let some = c.windows.ensures in
-    let from : windows_rest c.windows.result ≡ drop (length starts - length (windows_rest c.windows.result)) starts =
-    some.rest ∙ ap (λ (n : ℕ). drop n starts) {x = 0} {y = length starts - length (windows_rest c.windows.result)} (omega (arith, some.len)) in
+    let some = c.array_windows.ensures in
+    let parts = array_windows_parts c.array_windows.result in
+    let first : Left starts (windows_rest parts) (windows_size parts) = record {
+      two = some.size;
+      short = omega (arith, some.len);
+      end = some.rest ∙ ap (λ (n : ℕ). drop n starts) {x = 0} {y = length starts - length (windows_rest parts)} (omega (arith, some.len));
+    } in
     record {
       at = λ xs t q x u y folds e.
-          let s = left starts xs c.windows.result t y some.size (omega (arith, some.len)) from in
-          let place : ℕ = length starts - length (windows_rest t) in
-          let m = window_more starts t u (Some x) x refl e (omega (arith, s.0)) s.1 s.2 in
-          let inside : place + 2 ≤ length starts = omega (arith, s.0, s.1, m.2) in
-          let first : get_or x.now 0 0 ≡ get_or starts (place + 0) 0 = m.3 0 0 (omega (arith, s.0)) in
-          let second : get_or x.now 1 0 ≡ get_or starts (place + 1) 0 = m.3 1 0 (omega (arith, s.0)) in
+          let l = left starts xs c.array_windows.result t y first in
+          let place : ℕ = length starts - length (windows_rest (array_windows_parts t)) in
+          let m = window_more starts (array_windows_parts t) (array_windows_parts u) (Some x) x refl e (omega (arith, l.two)) l.short l.end in
+          let inside : place + 2 ≤ length starts = omega (arith, l.two, l.short, m.2) in
+          let before : get_or x.now 0 0 ≡ get_or starts (place + 0) 0 = m.3 0 0 (omega (arith, l.two)) in
+          let start : get_or x.now 1 0 ≡ get_or starts (place + 1) 0 = m.3 1 0 (omega (arith, l.two)) in
           let up = fall_none starts c.requires.ascending (place + 1) (omega arith) (omega arith) in
           let back : place + 1 - 1 ≡ place + 0 = omega arith in
-          let two : length x.now ≡ 2 = e.1.3 ∙ s.0 in
-          let ordered : get_or x.now 0 0 ≤ get_or x.now 1 0 = let r = rw back at up in omega (arith, first, second) in
+          let two : length x.now ≡ 2 = e.1.3 ∙ l.two in
+          let ordered : get_or x.now 0 0 ≤ get_or x.now 1 0 = let r = rw back at up in omega (arith, before, start) in
           search (rules, arith);
     }
 

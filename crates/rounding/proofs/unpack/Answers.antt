@@ -7,11 +7,6 @@ use Rattle.rounding.proofs.unpack.Goals as goal
 pub float_to_bits-bits : goal.float_to_bits-bits
 float_to_bits-bits c = finite_not_nan c.args.x c.requires
 
-pub invariant_of-result : goal.invariant_of-result
-invariant_of-result c =
-    let r = unpacked_subnormal binary64 c.args.x (subst T (sym c.well_formed.0.1) tt) c.requires c.if-field-eq0.true in
-    record { significand_in_range = r.significand; exponent_in_range = r.exponent }
-
 pub returns-then-field-eq0 : goal.returns-then-field-eq0
 returns-then-field-eq0 c = (unpacked_subnormal binary64 c.args.x (subst T (sym c.well_formed.0.1) tt) c.requires c.if-field-eq0.true).value
 

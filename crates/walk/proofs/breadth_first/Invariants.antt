@@ -8,7 +8,12 @@ use Rattle.walk.proofs.breadth_first.Given as goal
 abbrev pub invariant-loop-head : goal.invariant-loop-head
 invariant-loop-head l =
     let visit = visited (part l.starts l.entries) l.head in
-    (l.head ≤ l.reached) × Holding (length l.fn.order) visit.queue l.fn.queue l.reached l.order l.queue × (l.read ≡ visit.entries_read)
+    record {
+      passed : l.head ≤ l.reached;
+      within : l.reached ≤ length l.fn.order;
+      holds : Holding (length l.fn.order) visit.queue l.fn.queue l.reached l.order l.queue;
+      entries_agree : l.read ≡ visit.entries_read;
+    }
 
 abbrev pub decreases-loop-head : goal.decreases-loop-head
 decreases-loop-head l = length l.fn.order - l.head

@@ -1,7 +1,6 @@
 -- `walk::enter_list` meets its contract: an id without a number finds room and enters, any other has entered before. Assumes nothing.
 use Rattle.std.proofs.Common.{◌<◌, length, arith}
 use lib.ListN.{get_or, take}
-use lib.Seq.{take_all}
 use Rattle.sequences.proofs.Tabulate.{get_d_member}
 use Rattle.walk.specs.Walk.{entered}
 use Rattle.walk.proofs.Queue.{entered_next, holding_old, holding_room, holding_new}
@@ -38,9 +37,6 @@ loop-id-preserved c =
     let below = id_below (goal.at.loop-id-preserved c).In-loop-id in
     let next = entered_next (take c.args.reached c.args.queue.now) c.args.list.now c.loop-id.id-index c.loop-id-test.true in
     elim c.if-order-v.branch [
-      | then-order-v w ↦ rw (next, w.order-is, w.queue-is, w.count-is) (holding_new c.loop-id.invariant c.requires.few _ below c.requires.room w.if-order-v.true)
+      | then-order-v w ↦ rw (next, w.order-is, w.queue-is, w.count-is, w.from.ensures) (holding_new c.loop-id.invariant c.requires.few _ below c.requires.room w.if-order-v.true)
       | else-order-v w ↦ rw (next, w.order-is, w.queue-is, w.count-is) (holding_old c.loop-id.invariant c.requires.few _ below w.if-order-v.false)
     ]
-
-pub returns : goal.returns
-returns c = rw (← take_all c.loop-id.id-index c.args.list.now c.loop-id-test.false) c.loop-id.invariant

@@ -15,4 +15,4 @@ of_table faces i d h e = rw e (get_or-map-range_with_len master_face_of 0 20 i i
 
 pub returns : goal.returns
 unfolding master_face_of master_face gram_of edge_planes_of icosahedron_point face_corner square_root add sub mul div of_bits
-returns c = of_table _ c.args.index _ c.requires refl
+returns c = of_table _ c.args.face.index _ c.args.face.in_range refl

@@ -1,6 +1,6 @@
 -- `grid::side::VertexCount::side_across` meets its contract. Assumes nothing.
-use Rattle.std.proofs.Common.{◌≡◌, ◌^◌, refl, ◌∙◌, arith, le→leb}
-use lib.Ieee.{binary64, of_bits, of_int, in_float, round, mul, div}
+use Rattle.std.proofs.Common.{◌≡◌, refl, ◌∙◌}
+use lib.Ieee.{binary64, of_bits, of_int, round, mul, div}
 use Rattle.binary64.specs.Convert.{whole}
 use Rattle.root.specs.Root.{square_root}
 use Rattle.grid.proofs.side.VertexCount.side_across.Goals as goal
@@ -8,10 +8,6 @@ use Rattle.grid.proofs.side.VertexCount.side_across.Goals as goal
 six : of_bits binary64 0x4018000000000000 ≡ whole 6
 unfolding of_bits of_int round
 six = refl
-
-pub int_to_float-self : goal.int_to_float-self
-unfolding in_float
-int_to_float-self c = le→leb c.args.self.count (2 ^ 53) (omega arith)
 
 pub returns : goal.returns
 returns c =

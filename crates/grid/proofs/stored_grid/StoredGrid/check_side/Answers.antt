@@ -1,49 +1,42 @@
 -- `grid::stored_grid::StoredGrid::check_side`: the side, then the lengths of the starts. Assumes nothing.
-use Rattle.std.proofs.Common.{◌≡◌, ℕ, ◌+◌, ◌≤◌, ◌&&◌, eqb, length, sym, ap, ◌∙◌, subst, true, arith, eqb-true}
+use Rattle.std.proofs.Common.{◌≡◌, ℕ, ◌+◌, ◌&&◌, eqb, length, sym, ap, ◌∙◌, arith}
 use Rattle.mesh.specs.Mesh.{vertex_count}
-use Rattle.grid.specs.Settings.{factor_fits}
 use Rattle.grid.specs.Cells.{side_of, cell_count}
 use Rattle.grid.specs.Grid.{Grid}
-use Rattle.grid.specs.Passes.{greatest_side}
 use Rattle.grid.specs.Stored.{side_fits, both_starts_counted}
-use Rattle.grid.proofs.SideBound.{side_bound}
-use Rattle.grid.proofs.Stored.{positions_count, starts_tested}
+use Rattle.grid.proofs.SettingsRows.{settings_passed}
+use Rattle.grid.proofs.Stored.{positions_count, extent_buildable, starts_tested}
 use Rattle.grid.proofs.stored_grid.StoredGrid.check_side.Goals as goal
 use Rattle.grid.proofs.stored_grid.StoredGrid.check_side.Goals.{After-side_is, After-lengths_fit}
 
-pub invariant_of-side_is : goal.invariant_of-side_is
-invariant_of-side_is c =
+pub invariant_of-vertices : goal.invariant_of-vertices
+invariant_of-vertices c =
     let b = positions_count c.args.positions.now c.requires.positions_fit in
-    record { some = omega (arith, b, c.vertex_count-count.ensures); few = omega (arith, b, c.vertex_count-count.ensures) }
+    record { some = omega (arith, b, c.vertex_count.ensures); few = omega (arith, b, c.vertex_count.ensures) }
 
 -- what the test of the side found
 side_found : (c : After-side_is) → c.side_is.result ≡ side_fits c.args.self.now c.args.positions.now
 unfolding side_fits
 side_found c =
     let inside = c.self.inside in
-    c.side_is.ensures ∙ ap (λ (n : ℕ). eqb inside.side (side_of inside.settings.factor n)) c.vertex_count-count.ensures
+    c.side_is.ensures ∙ ap (λ (n : ℕ). eqb inside.side (side_of inside.settings.factor n)) c.vertex_count.ensures
     ∙ ap (λ (g : Grid). eqb g.side (side_of g.settings.factor (vertex_count c.args.positions.now))) c.self.view_is
 
 pub returns-then-not-side_is : goal.returns-then-not-side_is
 returns-then-not-side_is c = rw (← side_found (goal.at.returns-then-not-side_is c).After-side_is, c.if-not-side_is.true)
 
-pub lengths_fit-requires-clause-few_cells : goal.lengths_fit-requires-clause-few_cells
-lengths_fit-requires-clause-few_cells c =
-    let inside = c.self.inside in
-    let count = c.vertex_count-count.result in
-    let b = positions_count c.args.positions.now c.requires.positions_fit in
-    let same = eqb-true inside.side (side_of inside.settings.factor count) (sym c.side_is.ensures ∙ c.if-not-side_is.false) in
-    let fits = subst (λ (g : Grid). factor_fits g.settings.factor ≡ true) (sym c.self.view_is) c.requires.factor_fits in
-    let bound = side_bound inside.settings.factor count fits (omega (arith, b, c.vertex_count-count.ensures)) (omega (arith, b, c.vertex_count-count.ensures)) in
-    let small : inside.side ≤ greatest_side = omega (arith, bound) in
-    subst (λ (g : Grid). g.side ≤ greatest_side) c.self.view_is small
+pub extent-requires : goal.extent-requires
+extent-requires c =
+    let grid = c.args.self.now in
+    let pair = settings_passed grid.settings c.requires.pair_fits in
+    extent_buildable grid c.args.positions.now c.requires.positions_fit pair.0 pair.1 (sym (side_found (goal.at.extent-requires c).After-side_is) ∙ c.if-not-side_is.false)
 
 -- what the test of the lengths found
 starts_found : (c : After-lengths_fit) → c.lengths_fit.result ≡ both_starts_counted c.args.self.now c.args.positions.now
 starts_found c =
     let grid = c.args.self.now in
     c.lengths_fit.ensures
-    ∙ ap (λ (n : ℕ). eqb (length grid.cell_starts) (cell_count grid.side + 1) && eqb (length grid.triangle_starts) (n + 1)) c.vertex_count-count.ensures
+    ∙ (λ i. eqb (length grid.cell_starts) (cell_count (c.extent.ensures.side i) + 1) && eqb (length grid.triangle_starts) (c.vertex_count.ensures i + 1))
     ∙ starts_tested grid c.args.positions.now
 
 pub returns-then-not-lengths_fit : goal.returns-then-not-lengths_fit

@@ -2,14 +2,14 @@
 use Rattle.lattice.specs.Shared.{edge_at}
 use Rattle.lattice.proofs.face_points.FacePoint.on_edge.Goals as goal
 
-pub returns-in-A-clause-point : goal.returns-in-A-clause-point
+pub returns-in-A : goal.returns-in-A
 unfolding edge_at
-returns-in-A-clause-point c = rw c.in-A.is c.new.ensures.point
+returns-in-A c = record { frequency = c.new.ensures.frequency; point = rw c.in-A.is c.new.ensures.point }
 
-pub returns-in-B-clause-point : goal.returns-in-B-clause-point
+pub returns-in-B : goal.returns-in-B
 unfolding edge_at
-returns-in-B-clause-point c = rw c.in-B.is c.new-in-B.ensures.point
+returns-in-B c = record { frequency = c.new-in-B.ensures.frequency; point = rw c.in-B.is c.new-in-B.ensures.point }
 
-pub returns-in-C-clause-point : goal.returns-in-C-clause-point
+pub returns-in-C : goal.returns-in-C
 unfolding edge_at
-returns-in-C-clause-point c = rw c.in-C.is c.new-in-C.ensures.point
+returns-in-C c = record { frequency = c.new-in-C.ensures.frequency; point = rw c.in-C.is c.new-in-C.ensures.point }

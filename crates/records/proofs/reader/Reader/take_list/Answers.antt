@@ -1,12 +1,12 @@
--- `take_list` reads the places one by one.
-use Rattle.std.proofs.Common.{◌≡◌, ◌<◌, length, arith}
+-- `take_list` writes all places, then reads them one by one.
+use Rattle.std.proofs.Common.{◌≡◌, ◌<◌, length, rules, arith}
 use Rattle.std.proofs.lemmas.List.{set-get_or}
 use Rattle.std.proofs.lemmas.Result.{err_from_is_err_and}
-use Rattle.records.proofs.Readings.{read_none, read_next, read_fault, read_all}
+use Rattle.records.proofs.Readings.{written_everywhere, read_none, read_next, read_fault, read_all}
 use Rattle.records.proofs.reader.Reader.take_list.Goals as goal
 
 pub loop-x-init : goal.loop-x-init
-loop-x-init g c = read_none _ _ _ (λ j d lt. c.clear.ensures j d (omega arith))
+loop-x-init g c = read_none _ _ _ (λ j d lt. written_everywhere (λ before x after step. search rules) c.fill_with.new.self _ _ c.fill_with.ensures.ran.1 j d (omega arith))
 
 pub returns-in_err-x : goal.returns-in_err-x
 returns-in_err-x g c =

@@ -1,2 +1,0 @@
-// Laws of tests. No code.
-#![tactic(auto)]

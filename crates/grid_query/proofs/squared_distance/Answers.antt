@@ -1,6 +1,0 @@
-use Rattle.grid_query.specs.Nearest.{squared_distance}
-use Rattle.grid_query.proofs.squared_distance.Goals as goal
-
-pub returns : goal.returns
-unfolding squared_distance
-returns c = cc
