@@ -34,6 +34,7 @@ pub struct Outside {
 /// let both = Outside { first: true, second: true, third: false };
 /// assert_eq!(choose_face(signs, both), Ok(14));
 /// ```
+#[inline]
 pub fn choose_face(signs: Signs, outside: Outside) -> Result<u32, Refusal> {
     let Signs { i, j, k } = signs;
     let Outside {
@@ -74,6 +75,7 @@ impl AnalyticLattice<'_> {
     /// equal, and weights may lie outside 0 to 1 or sum to about 0: `docs/DIFFERENCES.md` has such
     /// directions. The direction is not normalised; each operation is rounded by itself (IEEE
     /// 754-2019, 5.4.1 and 4.3.1). Rows 1, 8, 9, 10 and 4 refuse, in this order.
+    #[inline]
     pub fn locate(&self, direction: Vector3) -> Result<([u32; 3], Weights), Refusal> {
         let answer = ffi::analytic_locate(self.frequency, self.ids, direction);
         Refusal::check(answer.refusal)?;
@@ -82,6 +84,7 @@ impl AnalyticLattice<'_> {
 
     /// The last corner of that triangle with the greatest weight in total order (IEEE 754-2019,
     /// 5.10), at times a neighbour of the nearest vertex. Rows as for `locate`.
+    #[inline]
     pub fn find_nearest_vertex(&self, direction: Vector3) -> Result<u32, Refusal> {
         let answer = ffi::analytic_nearest(self.frequency, self.ids, direction);
         Refusal::check(answer.refusal)?;

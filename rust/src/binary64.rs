@@ -12,6 +12,7 @@ use std::cmp::Ordering;
 /// let (negative, positive) = (f64::to_bits(-0.0), f64::to_bits(0.0));
 /// assert!(koshirga::total_cmp(negative, positive).is_lt());
 /// ```
+#[inline]
 pub fn total_cmp(x: u64, y: u64) -> Ordering {
     match ffi::koshirga_total_cmp(x, y) {
         -1 => Ordering::Less,
@@ -27,6 +28,7 @@ pub fn total_cmp(x: u64, y: u64) -> Ordering {
 /// ```
 /// assert_eq!(koshirga::rank(0.0), koshirga::rank(-0.0) + 1);
 /// ```
+#[inline]
 pub fn rank(x: f64) -> u64 {
     ffi::koshirga_rank(x)
 }
@@ -46,18 +48,21 @@ pub fn rank(x: f64) -> u64 {
 /// }
 /// assert_eq!(minimum_number(f64::NAN, 2.0), 2.0);
 /// ```
+#[inline]
 pub fn minimum_number(x: f64, y: f64) -> f64 {
     ffi::koshirga_minimum_number(x, y)
 }
 
 /// The greatest whole number not above `x`: roundToIntegralTowardNegative (IEEE 754-2019, 5.9). An
 /// infinity stays (5.9), a zero result has the sign of `x` (6.3), and a NaN gives a NaN (6.2).
+#[inline]
 pub fn floor(x: f64) -> f64 {
     ffi::koshirga_floor(x)
 }
 
 /// The least whole number not below `x`: roundToIntegralTowardPositive (IEEE 754-2019, 5.9). An
 /// infinity stays (5.9), a zero result has the sign of `x` (6.3), and a NaN gives a NaN (6.2).
+#[inline]
 pub fn ceil(x: f64) -> f64 {
     ffi::koshirga_ceil(x)
 }
@@ -111,6 +116,7 @@ pub struct Converted {
 /// let held = Converted { whole: i64::MAX, how: Conversion::Held };
 /// assert_eq!(to_i64(1e19), held);
 /// ```
+#[inline]
 pub fn to_i64(x: f64) -> Converted {
     let answer = ffi::koshirga_to_i64(x);
     Converted {
@@ -129,6 +135,7 @@ pub fn to_i64(x: f64) -> Converted {
 /// assert_eq!(koshirga::mul_add(x, x, y), 2f64.powi(-104));
 /// assert_eq!(x * x + y, 0.0); // rounded apart
 /// ```
+#[inline]
 pub fn mul_add(a: f64, b: f64, c: f64) -> f64 {
     ffi::koshirga_mul_add(a, b, c)
 }
@@ -140,6 +147,7 @@ pub fn mul_add(a: f64, b: f64, c: f64) -> f64 {
 /// ```
 /// assert_eq!(koshirga::sqrt(2.25), 1.5);
 /// ```
+#[inline]
 pub fn sqrt(x: f64) -> f64 {
     ffi::koshirga_sqrt(x)
 }

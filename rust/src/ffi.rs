@@ -1,6 +1,9 @@
 //! The archive's exports, as `include/koshirga.h` declares them, and the crate's only unsafe code.
 //! Each returns for every argument, so each is `safe` to call but those that take slices: pointer
 //! and length have to be a slice's. These are called below, by functions that take the slices.
+//!
+//! What is called for one direction or number is `#[inline]`, here and in the files beside: as calls
+//! of their own these would hand arguments and answers through memory once more.
 
 use crate::{Grid, GridMut, Mesh, MeshMut, Scratch, Settings, Vector3, Weights};
 
@@ -378,16 +381,19 @@ pub fn build_grid(mesh: Mesh, settings: Settings, grid: GridMut) -> BuildAnswer 
     }
 }
 
+#[inline]
 pub fn analytic_locate(frequency: u32, ids: &[u16], direction: Vector3) -> AnalyticAnswer {
     // Safe: pointer and length are a slice's.
     unsafe { koshirga_analytic_locate(frequency, ids.as_ptr(), ids.len(), direction) }
 }
 
+#[inline]
 pub fn analytic_nearest(frequency: u32, ids: &[u16], direction: Vector3) -> VertexAnswer {
     // Safe: pointer and length are a slice's.
     unsafe { koshirga_analytic_nearest(frequency, ids.as_ptr(), ids.len(), direction) }
 }
 
+#[inline]
 pub fn grid_nearest(grid: Grid, direction: Vector3) -> NearestAnswer {
     // Safe: pointers and lengths are of slices.
     unsafe {
@@ -408,6 +414,7 @@ pub fn grid_nearest(grid: Grid, direction: Vector3) -> NearestAnswer {
     }
 }
 
+#[inline]
 pub fn grid_locate(grid: Grid, direction: Vector3) -> LocatedAnswer {
     // Safe: pointers and lengths are of slices.
     unsafe {

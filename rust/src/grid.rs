@@ -121,6 +121,7 @@ impl Grid<'_> {
     /// as [`Vector3`]'s operations are (5.4.1 and 4.3.1). The triples are not read. Rows 2 (count
     /// and positions), 19, 20, 2 (side), 3, 9, then of the cell 18, 3, 11 and 4 refuse, in this
     /// order.
+    #[inline]
     pub fn find_nearest_vertex(&self, direction: Vector3) -> Result<Nearest, Refusal> {
         let answer = ffi::grid_nearest(*self, direction);
         Refusal::check_at(answer.refusal, answer.index)?;
@@ -138,6 +139,7 @@ impl Grid<'_> {
     /// Rows as for the nearest vertex, then at that vertex 18, 3, 4 and 12. Which start list falls,
     /// 18 doesn't say: the cell starts where [`Grid::find_nearest_vertex`] is refused too, and the
     /// triangle starts where it isn't.
+    #[inline]
     pub fn locate(&self, direction: Vector3) -> Result<Located, Refusal> {
         let answer = ffi::grid_locate(*self, direction);
         Refusal::check_at(answer.refusal, answer.index)?;
@@ -249,6 +251,7 @@ impl<'a> FaceGrid<'a> {
     }
 
     /// The grid lent to queries.
+    #[inline]
     pub fn as_grid(&self) -> Grid<'_> {
         Grid {
             positions: self.positions,
@@ -286,11 +289,13 @@ impl<'a> FaceGrid<'a> {
     }
 
     /// See [`Grid::find_nearest_vertex`].
+    #[inline]
     pub fn find_nearest_vertex(&self, direction: Vector3) -> Result<Nearest, Refusal> {
         self.as_grid().find_nearest_vertex(direction)
     }
 
     /// See [`Grid::locate`].
+    #[inline]
     pub fn locate(&self, direction: Vector3) -> Result<Located, Refusal> {
         self.as_grid().locate(direction)
     }

@@ -52,11 +52,13 @@ pub struct Refusal {
 
 impl Refusal {
     /// An export's answer: 0 where the call was accepted, or else the refusal's number.
+    #[inline]
     pub(crate) fn check(code: u32) -> Result<(), Refusal> {
         Refusal::check_at(code, 0)
     }
 
     /// The same for an answer that has an index, 0 but for row 18.
+    #[inline]
     pub(crate) fn check_at(code: u32, index: usize) -> Result<(), Refusal> {
         match code {
             0 => Ok(()),

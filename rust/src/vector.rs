@@ -34,46 +34,55 @@ impl Vector3 {
     }
 
     /// x·x' + y·y' + z·z', summed from the left.
+    #[inline]
     pub fn dot(self, other: Vector3) -> f64 {
         ffi::koshirga_dot(self, other)
     }
 
     /// (y·z' − z·y', z·x' − x·z', x·y' − y·x').
+    #[inline]
     pub fn cross(self, other: Vector3) -> Vector3 {
         ffi::koshirga_cross(self, other)
     }
 
     /// The difference, by component.
+    #[inline]
     pub fn minus(self, other: Vector3) -> Vector3 {
         ffi::koshirga_minus(self, other)
     }
 
     /// The sum, by component.
+    #[inline]
     pub fn plus(self, other: Vector3) -> Vector3 {
         ffi::koshirga_plus(self, other)
     }
 
     /// Each component times `factor`.
+    #[inline]
     pub fn scale(self, factor: f64) -> Vector3 {
         ffi::koshirga_scale(self, factor)
     }
 
     /// Each component divided by `divisor`.
+    #[inline]
     pub fn divide(self, divisor: f64) -> Vector3 {
         ffi::koshirga_divide(self, divisor)
     }
 
     /// The squared length: the vector's dot with itself.
+    #[inline]
     pub fn norm_squared(self) -> f64 {
         ffi::koshirga_norm_squared(self)
     }
 
     /// The length: the root of the squared length.
+    #[inline]
     pub fn norm(self) -> f64 {
         ffi::koshirga_norm(self)
     }
 
     /// Each component divided by the length. So the zero vector gives NaNs.
+    #[inline]
     pub fn normalize(self) -> Vector3 {
         ffi::koshirga_normalize(self)
     }
@@ -82,6 +91,7 @@ impl Vector3 {
     /// isFinite), and a [squared length](Vector3::norm_squared) from 2^−40 to 2^40, ends included
     /// (5.11): so lengths from 2^−20 to 2^20, about 1e-6 to 1e6. Refused by row 9 otherwise. What is
     /// accepted is accepted again once it is [normalised](Vector3::normalize).
+    #[inline]
     pub fn check_direction(self) -> Result<(), Refusal> {
         Refusal::check(ffi::koshirga_direction(self))
     }

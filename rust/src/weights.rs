@@ -26,6 +26,7 @@ pub struct Weights {
 /// let weights = projected_barycentric(Vector3::new(0.25, 0.5, 2.0), Vector3::ZERO, b, c);
 /// assert_eq!(weights, Weights { u: 0.25, v: 0.25, w: 0.5 });
 /// ```
+#[inline]
 pub fn projected_barycentric(p: Vector3, a: Vector3, b: Vector3, c: Vector3) -> Weights {
     ffi::koshirga_projected_barycentric(p, a, b, c)
 }
@@ -40,6 +41,7 @@ pub fn projected_barycentric(p: Vector3, a: Vector3, b: Vector3, c: Vector3) -> 
 /// let least = least_weight(Weights { u: 1.0, v: 0.0, w: -0.0 });
 /// assert!(least == 0.0 && least.is_sign_negative());
 /// ```
+#[inline]
 pub fn least_weight(weights: Weights) -> f64 {
     ffi::koshirga_least_weight(weights)
 }

@@ -17,10 +17,9 @@ use Rattle.vector.specs.declared.Weights.{Weights}
 use Rattle.master_face.specs.declared.Three.{Three}
 use Rattle.analytic.specs.declared.Signs.{Signs}
 use Rattle.analytic.specs.declared.Located.{Located}
-use Rattle.analytic.specs.declared.SubTriangle.{SubTriangle}
 use Rattle.master_face.specs.MasterFace.{master_face_of}
 use Rattle.analytic.specs.FaceChoice.{signs_of, outside_first, flag_sum, flags_fit, mapped_face, choose_face, face_choice_of}
-use Rattle.analytic.specs.SubTriangle.{sub_triangle_on}
+use Rattle.analytic.specs.SubTriangle.{SubTriangle, sub_triangle_on}
 use Rattle.analytic.proofs.FaceMapping.{mapped_face_below}
 use Rattle.analytic.specs.Location.{corner_ids, triple_below, located, locate_on, query_rows, analytic_locate, last_greatest, corner_of, analytic_nearest}
 

@@ -10,11 +10,10 @@ use Rattle.icosahedron.specs.Slots.{frequency_row, slots_per_face, lattice_verte
 use Rattle.vector.specs.declared.Triple.{Triple}
 use Rattle.vector.specs.declared.Weights.{Weights}
 use Rattle.analytic.specs.declared.LatticeCoordinates.{LatticeCoordinates}
-use Rattle.analytic.specs.declared.SubTriangle.{SubTriangle}
 use Rattle.analytic.specs.declared.Located.{Located}
 use Rattle.master_face.specs.MasterFace.{master_face_of}
 use Rattle.analytic.specs.FaceChoice.{signs_of, outside_first, flag_sum, flag_row, mapped_face}
-use Rattle.analytic.specs.SubTriangle.{sub_triangle_on, clamped_slot}
+use Rattle.analytic.specs.SubTriangle.{SubTriangle, sub_triangle_on, clamped_slot}
 
 -- the id of a lattice point of a face: "the twenty faces' slots, (n + 1)(n + 2)/2 each, one face behind another"
 unfoldable pub id_at : ℕ → List ℕ → ℕ → LatticeCoordinates → ℕ

@@ -6,10 +6,11 @@ use Rattle.binary64.specs.Constants.{one}
 use Rattle.binary64.specs.Integral.{floor_of}
 use Rattle.binary64.specs.Convert.{to_i64, whole}
 use Rattle.vector.specs.declared.Vector3.{Vector3}
+use Rattle.vector.specs.declared.Weights.{Weights}
 use Rattle.vector.specs.Triangle.{weights}
 use Rattle.icosahedron.specs.Slots.{slot_of}
 use Rattle.analytic.specs.declared.LatticeCoordinates.{LatticeCoordinates}
-use Rattle.analytic.specs.declared.SubTriangle.{SubTriangle}
+use Rattle.master_face.specs.declared.Three.{Three}
 use Rattle.master_face.specs.declared.MasterFace.{MasterFace}
 use Rattle.master_face.specs.MasterFace.{radial_projection, face_weights}
 
@@ -32,6 +33,11 @@ orientation_limit = from_bits binary64 0x3ff8000000000000
 
 abbrev pub lattice_coordinates : ℕ → ℕ → LatticeCoordinates
 lattice_coordinates a b = record { a = a; b = b }
+
+-- A sub-triangle's corners, and a point's weights on them.
+pub record SubTriangle : Type 0 where
+  pub corners : Three LatticeCoordinates
+  pub weights : Weights
 
 -- The corners `(i + 1, j), (i, j + 1), (i, j)` where `fu + fv + fw < 1.5`, with the weights fu, fv, fw; else `(i, j + 1), (i + 1, j), (i + 1, j + 1)` with 1 - fu, 1 - fv, 1 - fw.
 -- A NaN among the sums is not below 1.5.

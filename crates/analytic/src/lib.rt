@@ -1,9 +1,12 @@
 // Location in closed form on the lattice: the master face of a direction, and the sub-triangle of its lattice there.
 #![tactic(auto)]
 
-ghost use Rattle.std.specs.Prelude.{◌≡◌, ◌≤◌};
+ghost use Rattle.std.specs.Prelude.{◌≡◌, ◌≤◌, cond};
+ghost use Rattle.std.specs.Float.{binary64};
+ghost use Rattle.std.specs.Float.Ieee.{add, sub, lt};
+ghost use Rattle.binary64.specs.Constants.{one};
 ghost use Rattle.analytic.specs.FaceChoice.{signs_of, flag_sum, mapped_face, face_index, choose_face, face_choice_of};
-ghost use Rattle.analytic.specs.SubTriangle.{clamped_floor, sub_triangle, sub_triangle_at, sub_triangle_on};
+ghost use Rattle.analytic.specs.SubTriangle.{orientation_limit, clamped_floor, sub_triangle, sub_triangle_at, sub_triangle_on};
 ghost use Rattle.analytic.specs.Location.{triple_below, analytic_locate, last_greatest, analytic_nearest};
 
 mod slot_ids;
@@ -30,10 +33,13 @@ pub struct LatticeCoordinates {
     pub b: usize,
 }
 
+// Where a point lies on a lattice: the least coordinates of the rhombus of two sub-triangles there, and the point's fractions over them.
+// The two have two corners in common, whose ids are read before the fractions tell which is meant.
 #[derive(Clone, Copy)]
-pub struct SubTriangle {
-    pub corners: Three<LatticeCoordinates>,
-    pub weights: Weights,
+pub struct Rhombus {
+    pub least: LatticeCoordinates,
+    pub fractions: Weights,
+    pub ghost in_range: { (least.a ≤ 80) × (least.b ≤ 80) },
 }
 
 // The triangle of a lattice that a direction meets: the ids of its corners, and their weights. The grid's `LocatedTriangle` stands
@@ -108,6 +114,8 @@ fn signs_of(p: Vector3) -> Signs
 }
 
 // The choice of a direction's master face.
+// Inlined: as a call of its own it would load components in pairs that were not stored so, and wait for the stores.
+#[inline(always)]
 #[tactic(auto, unfolding(crate::specs::FaceChoice::face_choice_of, crate::specs::FaceChoice::outside_first))]
 pub fn master_face(p: Vector3) -> Result<Face, Refusal>
     ensures { face_index result ≡ face_choice_of p }
@@ -117,13 +125,13 @@ pub fn master_face(p: Vector3) -> Result<Face, Refusal>
     choose_face(signs, first.outside(p))
 }
 
-// The floor of a coordinate, from 0 to n. A NaN gives 0. From 2^53 on a number lies beyond n.
+// The floor of a coordinate, from 0 to n. A NaN gives 0.
 fn clamped_floor(frequency: Frequency, u: f64) -> u32
     ensures { result ≡ clamped_floor frequency.n u }
 {
     if u > 0.0 {
-        if u < binary64::NO_FRACTION as f64 {
-            (binary64::whole_digits(u) as usize).min(frequency.n) as u32
+        if u < frequency.n as f64 {
+            binary64::whole_digits(u) as u32
         } else {
             frequency.n as u32
         }
@@ -132,64 +140,70 @@ fn clamped_floor(frequency: Frequency, u: f64) -> u32
     }
 }
 
-// The sub-triangle whose least lattice coordinates are i and j, by the fractions over them: pointing up where they sum to about 1, down where to about 2.
-#[tactic(auto, unfolding(crate::specs::SubTriangle::sub_triangle))]
-fn sub_triangle(i: usize, j: usize, fu: f64, fv: f64, fw: f64) -> SubTriangle
-    requires first { i ≤ 80 }
-    requires second { j ≤ 80 }
-    ensures { result ≡ sub_triangle i j fu fv fw }
-{
-    let corner = LatticeCoordinates { a: i, b: j };
-    let beside_a = LatticeCoordinates { a: i + 1, b: j };
-    let beside_b = LatticeCoordinates { a: i, b: j + 1 };
-    if fu + fv + fw < 1.5 {
-        SubTriangle {
-            corners: Three {
-                first: beside_a,
-                second: beside_b,
-                third: corner,
-            },
-            weights: Weights::new(fu, fv, fw),
-        }
-    } else {
-        SubTriangle {
-            corners: Three {
-                first: beside_b,
-                second: beside_a,
-                third: LatticeCoordinates { a: i + 1, b: j + 1 },
-            },
-            weights: Weights::new(1.0 - fu, 1.0 - fv, 1.0 - fw),
-        }
+impl Rhombus {
+    // Whether the point lies in the sub-triangle that points up: there the fractions sum to about 1, and in the other to about 2.
+    pub fn points_up(self) -> bool
+        ensures { result ≡ lt (add binary64 (add binary64 self.fractions.u self.fractions.v) self.fractions.w) orientation_limit }
+    {
+        self.fractions.u + self.fractions.v + self.fractions.w < 1.5
+    }
+
+    // The point's weights at the corners of its sub-triangle.
+    #[tactic(auto, unfolding(crate::specs::SubTriangle::sub_triangle))]
+    fn weights(self) -> Weights
+        ensures { result ≡ (sub_triangle self.least.a self.least.b self.fractions.u self.fractions.v self.fractions.w).weights }
+    {
+        let up = self.points_up();
+        let Weights { u, v, w } = self.fractions;
+        Weights::new(
+            corner_weight(up, u),
+            corner_weight(up, v),
+            corner_weight(up, w),
+        )
     }
 }
 
-// The sub-triangle at the lattice coordinates u, v and w.
+// What a fraction is multiplied by, and what that is added to: -1 and 1 where the sub-triangle points down, 1 and -0 where it points up.
+const FACTOR_AND_BASE: [(f64, f64); 2] = [(-1.0, 1.0), (1.0, -0.0)];
+
+// The weight of a corner by the fraction at it: the fraction where the sub-triangle points up, and else what it leaves of 1.
+// Up and down come in any order: a wrong guess of a branch would cost more than this product and sum, which make the same bits. As a function of
+// its own LLVM makes a branch of the table, and then inlines that.
+#[inline(always)]
+fn corner_weight(up: bool, fraction: f64) -> f64
+    ensures { result ≡ cond up fraction (sub binary64 one fraction) }
+{
+    let (factor, base) = FACTOR_AND_BASE[usize::from(up)];
+    base + factor * fraction
+}
+
+// The rhombus at the lattice coordinates u, v and w.
 #[tactic(auto, using(crate::proofs::ClampedFloor::clamped_floor_le), unfolding(crate::specs::SubTriangle::sub_triangle_at))]
-fn sub_triangle_at(frequency: Frequency, u: f64, v: f64, w: f64) -> SubTriangle
-    ensures { result ≡ sub_triangle_at frequency.n u v w }
+fn rhombus_at(frequency: Frequency, u: f64, v: f64, w: f64) -> Rhombus
+    ensures { sub_triangle result.least.a result.least.b result.fractions.u result.fractions.v result.fractions.w ≡ sub_triangle_at frequency.n u v w }
 {
     let i = clamped_floor(frequency, u);
     let j = clamped_floor(frequency, v);
     let k = clamped_floor(frequency, w);
-    sub_triangle(
-        i as usize,
-        j as usize,
-        u - i as f64,
-        v - j as f64,
-        w - k as f64,
-    )
+    Rhombus {
+        least: LatticeCoordinates {
+            a: i as usize,
+            b: j as usize,
+        },
+        fractions: Weights::new(u - i as f64, v - j as f64, w - k as f64),
+    }
 }
 
-// The sub-triangle that a direction meets on a master face.
+// The rhombus that a direction meets on a master face.
 // Called once a query: as a call of its own it costs some nanoseconds.
 #[inline(always)]
 #[tactic(auto, unfolding(crate::specs::SubTriangle::sub_triangle_on))]
-fn sub_triangle_on(frequency: Frequency, face: MasterFace, p: Vector3) -> SubTriangle
-    ensures { result ≡ sub_triangle_on frequency.n face p }
+fn rhombus_on(frequency: Frequency, face: MasterFace, p: Vector3) -> Rhombus
+    ensures { sub_triangle result.least.a result.least.b result.fractions.u result.fractions.v result.fractions.w ≡ sub_triangle_on frequency.n face p }
 {
     let nf = frequency.n as f64;
     let t = face.barycentric(face.projection(p));
-    sub_triangle_at(frequency, t.u * nf, t.v * nf, t.w * nf)
+    rhombus_at(frequency, t.u * nf, t.v * nf, t.w * nf)
 }
 
 #[tactic(auto, unfolding(crate::specs::Location::triple_below))]
@@ -201,6 +215,8 @@ fn triple_below(count: usize, t: Triple) -> bool
 
 // The triangle of the lattice of a frequency that a direction meets, with its weights, behind rows 1, 8, 9, 10 and 4. The ids are tested before
 // they are given out.
+// Inlined into both queries, so that no weight waits between a store of this answer and a load that spans two of its stores.
+#[inline(always)]
 pub fn locate(frequency: u32, id_table: &[u16], direction: Vector3) -> Result<Located, Refusal>
     ensures { result ≡ analytic_locate frequency id_table.now direction }
 {
@@ -208,14 +224,14 @@ pub fn locate(frequency: u32, id_table: &[u16], direction: Vector3) -> Result<Lo
     let table = SlotIds::new(lattice, id_table)?;
     let p = direction.admitted()?;
     let face = master_face(p)?;
-    let t = sub_triangle_on(lattice, master_face_of(face), p);
-    let triple = table.corner_ids(face, t);
+    let rhombus = rhombus_on(lattice, master_face_of(face), p);
+    let triple = table.corner_ids(face, rhombus);
     if !triple_below(lattice.vertex_count(), triple) {
         return Err(Refusal::Id);
     }
     Ok(Located {
         triple,
-        weights: t.weights,
+        weights: rhombus.weights(),
     })
 }
 

@@ -2,7 +2,7 @@
 ghost use Rattle.std.specs.Prelude.{◌≡◌, ◌*◌, ◌≤◌, length};
 ghost use Rattle.icosahedron.specs.Slots.{slots_per_face};
 
-use super::{LatticeCoordinates, SubTriangle};
+use super::{LatticeCoordinates, Rhombus};
 use icosahedron::{Face, Frequency};
 use refusal::Refusal;
 use vector::Triple;
@@ -18,7 +18,7 @@ pub struct SlotIds<'a> {
 impl<'a> SlotIds<'a> {
     ghost use Rattle.std.specs.Prelude.{MatchResult, nat_le, true, false};
     ghost use Rattle.refusal.specs.declared.Refusal.TheVariants as refusal;
-    ghost use Rattle.analytic.specs.SubTriangle.{clamped_slot};
+    ghost use Rattle.analytic.specs.SubTriangle.{clamped_slot, sub_triangle};
     ghost use Rattle.analytic.specs.Location.{id_at, corner_ids};
 
     // Row 8.
@@ -53,16 +53,29 @@ impl<'a> SlotIds<'a> {
         self.ids[index]
     }
 
-    // The ids of a sub-triangle's corners.
+    // The ids of the corners of the sub-triangle that a point of a rhombus lies in.
+    // The two corners that both sub-triangles have are read before their order is known, and no branch asks for it.
     #[inline(always)]
     #[tactic(auto, unfolding(crate::specs::Location::corner_ids))]
-    pub fn corner_ids(&self, face: Face, t: SubTriangle) -> Triple
-        ensures { result ≡ corner_ids self.now.frequency.n self.now.ids.now face.index t }
+    pub fn corner_ids(&self, face: Face, rhombus: Rhombus) -> Triple
+        ensures { result ≡ corner_ids self.now.frequency.n self.now.ids.now face.index (sub_triangle rhombus.least.a rhombus.least.b rhombus.fractions.u rhombus.fractions.v rhombus.fractions.w) }
     {
+        let LatticeCoordinates { a, b } = rhombus.least;
+        let beside_a = self.id_at(face, LatticeCoordinates { a: a + 1, b });
+        let beside_b = self.id_at(face, LatticeCoordinates { a, b: b + 1 });
+        let beside = [beside_b, beside_a];
+        let up = usize::from(rhombus.points_up());
+        let down = 1 - up;
         Triple {
-            first: self.id_at(face, t.corners.first),
-            second: self.id_at(face, t.corners.second),
-            third: self.id_at(face, t.corners.third),
+            first: beside[up],
+            second: beside[down],
+            third: self.id_at(
+                face,
+                LatticeCoordinates {
+                    a: a + down,
+                    b: b + down,
+                },
+            ),
         }
     }
 }

@@ -10,8 +10,9 @@ use fused::{mul_add, product_at_most};
 use vector::{Vector3, Weights};
 
 // The weights of the point of the triangle a, b, c that is closest to p (Christer Ericson, Real-Time Collision Detection, Morgan Kaufmann 2005, pp. 141–142).
-// The tests ask for the signs of vc, vb and va; the values are worked out in the face region alone.
+// The tests ask for the signs of vc, vb and va; the values are worked out in the face region alone. Inlined, so that the weights do not go through memory.
 #[tactic(auto, using(crate::proofs::Scalars::weights_of_scalars), unfolding(crate::specs::Ericson::region_weights))]
+#[inline(always)]
 pub fn projected_barycentric(p: Vector3, a: Vector3, b: Vector3, c: Vector3) -> Weights
     ensures { result ≡ projected_barycentric p a b c }
 {

@@ -6,4 +6,5 @@ pub mod Outcomes
 pub mod Special
 pub mod Sign
 pub mod Halves
+pub mod HalfSum
 pub mod Monotone

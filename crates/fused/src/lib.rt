@@ -165,11 +165,12 @@ pub fn mul_add(a: f64, b: f64, c: f64) -> f64
 // double above it is a double.
 const NOT_TINY: f64 = 1.1830521861667747e-271;
 
-// Whether x or -x is above it.
+// Whether x or -x is above it. Not both are, and `!=` says that one is: `|` would be a branch for each, and where signs come in any
+// order the first is guessed wrong at every other number.
 fn is_not_tiny(x: f64) -> bool
     ensures { result ≡ is_not_tiny x }
 {
-    (x > NOT_TINY) | (x < -NOT_TINY)
+    (x > NOT_TINY) != (x < -NOT_TINY)
 }
 
 // Whether a * b - c, rounded once (IEEE 754-2019, 4.3.1), is at most 0. Where the product rounded alone is not c, it lies
@@ -184,13 +185,10 @@ pub fn product_at_most(a: f64, b: f64, c: f64) -> bool
     mul_add(a, b, -c) <= 0.0
 }
 
-// x * 0.5 + 0.5, rounded once (IEEE 754-2019, 4.3.1). Halving is exact, so that the sum alone is
-// rounded.
+// x * 0.5 + 0.5, rounded once (IEEE 754-2019, 4.3.1). The sum alone is rounded, since halving is
+// exact or its rounding is too small to show.
 pub fn mul_add_halves(x: f64) -> f64
     ensures { result ≡ fused_multiply_add binary64 x half half }
 {
-    if is_not_tiny(x) {
-        return x * 0.5 + 0.5;
-    }
-    mul_add(x, 0.5, 0.5)
+    x * 0.5 + 0.5
 }

@@ -2,7 +2,7 @@
 ghost use Rattle.std.specs.Prelude.{◌≡◌, if◌then◌else◌};
 ghost use Rattle.std.specs.Float.Ieee.{lt, neg};
 ghost use Rattle.binary64.specs.Constants.{positive_zero};
-ghost use Rattle.grid.specs.CubeFace.{face_projection, dominant_face};
+ghost use Rattle.grid.specs.CubeFace.{face_projection, side_of_axis, dominant_face};
 
 use vector::Vector3;
 
@@ -54,11 +54,36 @@ pub fn cube_face_project(face: usize, v: Vector3) -> Projected
     }
 }
 
+// For each face the places of its u and w among x, −x, y, −y, z and −z. That of d is the face's own number.
+const U_PLACES: [usize; 6] = [2, 3, 0, 1, 0, 1];
+
+const W_PLACES: [usize; 6] = [4, 4, 4, 4, 2, 2];
+
+// The same by the tables, for a query, whose faces come in any order: there a match is a jump that is guessed wrong, and so is one that picks the places. A loop over the faces takes the match, as document 01 has it.
+pub fn cube_face_project_by_table(face: usize, v: Vector3) -> Projected
+    ensures { result ≡ face_projection face v }
+{
+    let signed = [v.x, -v.x, v.y, -v.y, v.z, -v.z];
+    let place = face.min(5);
+    Projected {
+        u: signed[U_PLACES[place]],
+        w: signed[W_PLACES[place]],
+        d: signed[place],
+    }
+}
+
 // The magnitude of a component, as the datasheet states it and not by the library's `abs`: a negative zero stays, since comparisons don't see its sign.
 fn magnitude(x: f64) -> f64
     ensures { result ≡ (if lt x positive_zero then neg x else x) }
 {
     if x < 0.0 { -x } else { x }
+}
+
+// One of the two faces of an axis, by the sign of the component along it.
+fn side_of_axis(component: f64, positive: usize, negative: usize) -> usize
+    ensures { result ≡ side_of_axis component positive negative }
+{
+    if component > 0.0 { positive } else { negative }
 }
 
 // The face of the dominant axis.
@@ -68,13 +93,15 @@ pub fn dominant_face(v: Vector3) -> usize
     let along_x = magnitude(v.x);
     let along_y = magnitude(v.y);
     let along_z = magnitude(v.z);
+    // The face on each axis first, so that the choice of one is no jump.
+    let on_x = side_of_axis(v.x, 0, 1);
+    let on_y = side_of_axis(v.y, 2, 3);
+    let on_z = side_of_axis(v.z, 4, 5);
     if (along_y <= along_x) & (along_z <= along_x) {
-        if v.x > 0.0 { 0 } else { 1 }
+        on_x
     } else if along_z <= along_y {
-        if v.y > 0.0 { 2 } else { 3 }
-    } else if v.z > 0.0 {
-        4
+        on_y
     } else {
-        5
+        on_z
     }
 }

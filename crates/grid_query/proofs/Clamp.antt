@@ -1,12 +1,11 @@
 -- Laws of a clamped conversion: what is clamped to 0..n converts to a whole number from 0 to n, and the order is kept. Assumes nothing.
-use Rattle.std.proofs.Common.{◌≡◌, ℕ, suc, ◌+◌, ◌-◌, ◌*◌, ◌/◌, ◌^◌, ◌<◌, ◌≤◌, min, Bool, true, false, cond, T, pos, sym, refl, ap, ◌∙◌, true≢false, zero-le, mul-le-mul_right, div-lt_iff_lt-mul, mul-one, mul_right_comm, le_of_mul-le-mul_right, arith, lt→ltb, ltb-false, le-ltb}
-use mathlib.Core.Bool.{false≢true}
+use Rattle.std.proofs.Common.{◌≡◌, ℕ, suc, ◌-◌, ◌*◌, ◌/◌, ◌^◌, ◌<◌, ◌≤◌, min, Bool, true, false, cond, T, pos, sym, refl, ap, ◌∙◌, true≢false, zero-le, div-lt_iff_lt-mul, mul-one, mul_right_comm, le_of_mul-le-mul_right, arith, ltb-false}
+use native.Mathlib.Nat.{zero-div}
 use lib.Ieee.{Float, nan, inf, fin, up, down, lt, le, to_unsigned, is_nan, of_bits}
 use lib.Ieee.Fits.{down_pos}
 use lib.Ieee.Exact.{HasValue}
-use lib.Ieee.Order.{le_of_values}
 use Rattle.std.proofs.lemmas.Float as float
-use Rattle.binary64.proofs.FloatOrder.{lt_not_le, le_of_not_lt}
+use Rattle.binary64.proofs.FloatOrder.{lt_right_number, lt_asymmetric, le_of_not_lt}
 use Rattle.binary64.proofs.WholeNumbers.{whole_value, whole_converted, to_unsigned_monotone}
 use Rattle.binary64.specs.Constants.{positive_zero}
 use Rattle.binary64.specs.Convert.{whole}
@@ -54,11 +53,6 @@ clamp_at_most n x h = go (lt x positive_zero) (lt (whole n) x) refl
     go false true e = value_at_most n (whole n) (whole_value n h)
     go false false e = not_above_at_most n (whole n) x (whole_value n h) e
 
--- the ends are in their order
-pub zero_below_whole : (n : ℕ) → n ≤ 2 ^ 53 → T (le positive_zero (whole n))
-unfolding of_bits
-zero_below_whole n few = le_of_values positive_zero (whole n) 0 1 n 1 (omega arith) (omega arith) (refl, refl) (whole_value n few) (omega arith)
-
 pub at_most_converts : (w n : ℕ) (x : Float) → AtMost n x → to_unsigned w x ≤ n
 unfolding to_unsigned
 at_most_converts w n nan v = zero-le
@@ -70,26 +64,16 @@ at_most_converts w n (fin false m e) v =
     let q : m * up e / down e < suc n = (div-lt_iff_lt-mul (down_pos e)).1 below in
     omega arith
 
--- ---- what a conversion that drops the fraction asks for, beside `above_minus_one`
-pub below_word : (n : ℕ) (x : Float) → n < 2 ^ 64 → AtMost n x → le positive_zero x ≡ true → T (lt x (fin false 1 (pos 64)))
-unfolding le of_bits
-below_word n nan l v h = absurd (false≢true h)
-below_word n (inf true) l v h = tt
-below_word n (inf false) l v h = absurd v
-below_word n (fin true m e) l v h = lt→ltb 0 (m * up e * 1 + 2 ^ 64 * down e) (omega (arith, down_pos e))
-below_word n (fin false m e) l v h =
-    let room : suc n * down e ≤ 2 ^ 64 * down e = mul-le-mul_right (down e) l in
-    lt→ltb (m * up e * 1) (2 ^ 64 * down e) (omega (arith, down_pos e))
-
--- a NaN, and what is below zero, converts to 0
-pub not_positive_converts : (w : ℕ) (x : Float) → le positive_zero x ≡ false → to_unsigned w x ≡ 0
-unfolding le to_unsigned is_nan of_bits
+-- a NaN, and what is not above zero, converts to 0
+pub not_positive_converts : (w : ℕ) (x : Float) → lt positive_zero x ≡ false → to_unsigned w x ≡ 0
+unfolding lt to_unsigned of_bits
 not_positive_converts w nan h = refl
 not_positive_converts w (inf true) h = refl
 not_positive_converts w (inf false) h = absurd (true≢false h)
 not_positive_converts w (fin true m e) h = refl
 not_positive_converts w (fin false m e) h =
-    absurd (true≢false (sym (le_of_not_lt positive_zero (fin false m e) refl refl (le-ltb (m * up e * 1) (0 * 1 * down e) (omega arith))) ∙ h))
+    let none : m * up e ≡ 0 = omega (arith, ltb-false (0 * 1 * down e) (m * up e * 1) h) in
+    rw (none, zero-div (down e)) (omega arith)
 
 -- ---- "clamps to 0..g − 1 before it converts": the same as converted, and then cut to at most g − 1
 pub clamped_is_cut : (g : ℕ) (x : Float) → g ≤ 2 ^ 53 → clamped_cell g x ≡ min (to_unsigned 64 x) (g - 1)
@@ -100,9 +84,19 @@ clamped_is_cut g x h = go (lt x positive_zero) (lt top x) refl refl (clamp_at_mo
     top = whole (g - 1)
 
     go : (s t : Bool) → lt x positive_zero ≡ s → lt top x ≡ t → AtMost (g - 1) (cond s positive_zero (cond t top x)) → to_unsigned 64 (cond s positive_zero (cond t top x)) ≡ min (to_unsigned 64 x) (g - 1)
-    go true t below above a = omega (arith, at_most_converts 64 0 positive_zero (zero_at_most 0), not_positive_converts 64 x (lt_not_le x positive_zero below))
+    go true t below above a = omega (arith, at_most_converts 64 0 positive_zero (zero_at_most 0), not_positive_converts 64 x (lt_asymmetric x positive_zero below))
     go false true below above a = omega (arith, whole_converted (g - 1) (omega arith), to_unsigned_monotone 64 top x (float.le_of_lt top x (float.T_from_true _ above)))
     go false false below above a = omega (arith, at_most_converts 64 (g - 1) x a)
+
+-- from 2 ^ 53 on, the last one
+pub beyond_last : (g : ℕ) (x : Float) → g ≤ 2 ^ 53 → lt positive_zero x ≡ true → lt x (fin false 1 (pos 53)) ≡ false → g - 1 ≡ clamped_cell g x
+unfolding to_unsigned is_nan
+beyond_last g x few above h =
+    let far : 2 ^ 53 ≤ to_unsigned 64 x = to_unsigned_monotone 64 (fin false 1 (pos 53)) x (float.T_from_true _ (le_of_not_lt (fin false 1 (pos 53)) x refl (lt_right_number positive_zero x above) h)) in
+    omega (arith, clamped_is_cut g x few)
+
+pub none_before : (g : ℕ) (x : Float) → g ≤ 2 ^ 53 → lt positive_zero x ≡ false → 0 ≡ clamped_cell g x
+none_before g x few h = omega (arith, clamped_is_cut g x few, not_positive_converts 64 x h)
 
 -- so it is a row or a column of cells
 pub clamped_below : (g : ℕ) (x : Float) → 0 < g → g ≤ 2 ^ 53 → clamped_cell g x < g

@@ -1,9 +1,10 @@
 // Queries of a cube grid: the nearest vertex of a direction, and the triangle around it.
 #![tactic(auto)]
 
-ghost use Rattle.std.specs.Prelude.{◌≡◌, ℕ, ◌+◌, ◌-◌, ◌*◌, ◌^◌, ◌<◌, ◌≤◌, true, List, length, if◌then◌else◌, Option, Some, None, Ok, IfOk, IfErr};
+ghost use Rattle.std.specs.Prelude.{◌≡◌, ℕ, ◌+◌, ◌-◌, ◌*◌, ◌^◌, ◌<◌, ◌≤◌, true, List, length, if◌then◌else◌, Option, Some, None, Ok, Err, IfOk, IfErr};
 ghost use Rattle.std.specs.Float.Ieee.{lt};
 ghost use Rattle.sequences.specs.Starts.{block_part};
+ghost use Rattle.refusal.specs.declared.Refusal.TheVariants.{Id};
 ghost use Rattle.barycentric.specs.LeastWeight.{least_weight};
 ghost use Rattle.barycentric.specs.Ericson.{projected_barycentric};
 ghost use Rattle.mesh.specs.Mesh.{vertex_count, position_of};
@@ -14,8 +15,8 @@ ghost use Rattle.grid_query.specs.Nearest.{squared_distance, nearest_in, nearest
 ghost use Rattle.grid_query.specs.Locate.{located, least_kept, kept_of, located_at, grid_locate};
 
 use barycentric::{least_weight, projected_barycentric};
-use binary64::rank;
-use grid::cube_face::{cube_face_project, dominant_face};
+use binary64::{NO_FRACTION, rank, whole_digits};
+use grid::cube_face::{cube_face_project_by_table, dominant_face};
 use grid::extent::Extent;
 use grid::settings::Settings;
 use grid::stored_grid::StoredGrid;
@@ -39,25 +40,30 @@ pub struct LocatedTriangle {
     pub least: f64,
 }
 
-// The cell of a coordinate across a face, counted in cells: clamped to 0..side − 1, then converted. A NaN gives 0.
+// The cell of a coordinate across a face, counted in cells: clamped to 0..side − 1, then converted. A NaN gives 0. From 2^53 on a number lies beyond the last cell.
+// A number that is converted first and then cut gives the same cell, sooner than by a clamp of doubles.
 fn clamped_cell(extent: Extent, x: f64) -> usize
     ensures { result ≡ clamped_cell extent.side x }
 {
-    let last = (extent.side - 1) as f64;
-    let clamped = x.clamp(0.0, last);
-    if clamped >= 0.0 {
-        std::num::truncating_f64_to_u64(clamped) as usize
+    let last = extent.side - 1;
+    if x > 0.0 {
+        if x < NO_FRACTION as f64 {
+            (whole_digits(x) as usize).min(last)
+        } else {
+            last
+        }
     } else {
         0
     }
 }
 
-// The cell of a direction that is normalised already.
+// The cell of a direction that is normalised already. In place, so that the direction does not go through memory.
+#[inline(always)]
 fn cell_index(extent: Extent, direction: Vector3) -> usize
     ensures { result ≡ cell_of extent.side direction }
 {
     let face = dominant_face(direction);
-    let shown = cube_face_project(face, direction);
+    let shown = cube_face_project_by_table(face, direction);
     let ci = clamped_cell(extent, extent.across_cells(shown.u, shown.d));
     let cj = clamped_cell(extent, extent.across_cells(shown.w, shown.d));
     extent.cell_number(face, ci, cj)
@@ -151,7 +157,9 @@ impl Query<'_> {
         if grid.usual_passes(self.positions) & self.direction.is_admissible() {
             Ok(())
         } else {
-            self.check_rows(&lent_again(grid))
+            // The call is lent a copy, so that the query's own stays in registers, here and below.
+            let again = *self;
+            again.check_rows(&lent_again(grid))
         }
     }
 
@@ -171,17 +179,61 @@ impl Query<'_> {
         (self.direction - position(self.positions, vertex)).norm_squared()
     }
 
-    // The first candidate with the least squared distance in total order. By hand: `min_by_key` gives the id alone, so that its distance would travel in a pair with it, and an empty list, row 11, would be told behind row 4.
-    fn nearest_in_cell(&self, candidates: &[u16]) -> Nearest
+    // The first candidate with the least squared distance in total order, or row 4: an id is tested as it is read. By hand: `min_by_key` gives the id alone, so that its distance would travel in a pair with it, and an empty list, row 11, would be told behind row 4.
+    // A squared distance that is no NaN has the sign +, so that the lesser bits have the lesser rank. Bits are compared sooner than doubles, and without a jump. Inlined, so that the answer does not go through memory.
+    #[inline(always)]
+    fn nearest_in_cell(&self, candidates: &[u16]) -> Result<Nearest, Refusal>
         requires some { 0 < length candidates.now }
         requires counted { length candidates.now < 2 ^ 32 }
-        requires vertices { ids_below (vertex_count self.now.positions.now) candidates.now ≡ true }
-        ensures { result ≡ nearest_in self.now.positions.now self.now.direction candidates.now }
+        ensures { result ≡ (if ids_below (vertex_count self.now.positions.now) candidates.now then Ok (nearest_in self.now.positions.now self.now.direction candidates.now) else Err Id) }
     {
+        let count = vertex_count(self.positions);
         let mut id = candidates[0];
+        if id as usize >= count {
+            return Err(Refusal::Id);
+        }
+        let distance = self.squared_distance(id as usize);
+        if distance.is_nan() {
+            let again = *self;
+            return again.nearest_by_rank(candidates);
+        }
+        let mut least = distance.to_bits();
+        for &next in &candidates[1..] {
+            if next as usize >= count {
+                return Err(Refusal::Id);
+            }
+            let next_distance = self.squared_distance(next as usize);
+            if next_distance.is_nan() {
+                let again = *self;
+                return again.nearest_by_rank(candidates);
+            }
+            let next_bits = next_distance.to_bits();
+            if next_bits < least {
+                id = next;
+                least = next_bits;
+            }
+        }
+        Ok(Nearest {
+            id,
+            distance: f64::from_bits(least),
+            candidates: candidates.len() as u32,
+        })
+    }
+
+    // The same by ranks, for any distances: a NaN stands above every number, and a later one doesn't replace an earlier one. Apart, which keeps it out of the query's code.
+    #[inline(never)]
+    fn nearest_by_rank(&self, ids: &[u16]) -> Result<Nearest, Refusal>
+        requires some { 0 < length ids.now }
+        requires counted { length ids.now < 2 ^ 32 }
+        ensures { result ≡ (if ids_below (vertex_count self.now.positions.now) ids.now then Ok (nearest_in self.now.positions.now self.now.direction ids.now) else Err Id) }
+    {
+        if !ids_below(vertex_count(self.positions), ids) {
+            return Err(Refusal::Id);
+        }
+        let mut id = ids[0];
         let mut distance = self.squared_distance(id as usize);
         let mut least = rank(distance);
-        for &next in &candidates[1..] {
+        for &next in &ids[1..] {
             let next_distance = self.squared_distance(next as usize);
             let next_rank = rank(next_distance);
             if next_rank < least {
@@ -190,11 +242,11 @@ impl Query<'_> {
                 least = next_rank;
             }
         }
-        Nearest {
+        Ok(Nearest {
             id,
             distance,
-            candidates: candidates.len() as u32,
-        }
+            candidates: ids.len() as u32,
+        })
     }
 
     // The nearest candidate of a cell, behind rows 18, 3, 11 and 4.
@@ -207,10 +259,7 @@ impl Query<'_> {
         if candidates.is_empty() {
             return Err(Refusal::EmptyCell);
         }
-        if !ids_below(vertex_count(self.positions), candidates) {
-            return Err(Refusal::Id);
-        }
-        Ok(self.nearest_in_cell(candidates))
+        self.nearest_in_cell(candidates)
     }
 
     // The weights of a triangle's corners, its positions read by its ids.

@@ -1,5 +1,5 @@
 -- `integer_root` is the integer square root: r * r ≤ n < (r + 1) * (r + 1). Assumes nothing.
-use Rattle.std.proofs.Common.{◌≡◌, ℕ, zero, suc, ◌+◌, ◌*◌, ◌/◌, ◌^◌, ◌<◌, ◌≤◌, Bool, true, false, cond, not, T, leb, ap, ◌∙◌, le_of_eq, le_refl, lt_of_lt_of_le, lt_of_le_of_lt, le_of_lt, lt_irrefl, div-lt_iff_lt-mul, mul-le-mul, mul-lt-mul_of_pos_right, pow-suc, lt_of_not-le, arith, lit<, lit≤, leb→le}
+use Rattle.std.proofs.Common.{◌≡◌, ℕ, zero, suc, ◌+◌, ◌*◌, ◌/◌, ◌^◌, ◌<◌, ◌≤◌, Bool, true, false, cond, not, T, leb, ap, ◌∙◌, le_of_eq, le_refl, lt_of_lt_of_le, lt_of_le_of_lt, le_of_lt, lt_irrefl, add-mul, mul-add, mul_comm, div-lt_iff_lt-mul, mul-le-mul, mul-lt-mul_of_pos_right, pow-suc, lt_of_not-le, arith, lit<, lit≤, leb→le}
 use native.Mathlib.Nat.{mul-mul-mul_comm, pow-le-pow_left}
 use lib.Dec.{nleb→lt}
 use lib.Ieee.{size}
@@ -15,6 +15,9 @@ square_lt_back a b h = lt_of_not-le (λ (g : b ≤ a). lt_irrefl (a * a) (lt_of_
 
 pub double_square : (q : ℕ) → 2 * q * (2 * q) ≡ 4 * (q * q)
 double_square q = mul-mul-mul_comm 2 q 2 q
+
+pub square_of_sum : (a b : ℕ) → (a + b) * (a + b) ≡ a * a + 2 * (a * b) + b * b
+square_of_sum a b = simp (add-mul, mul-add, mul_comm) (omega arith)
 
 -- ---- the root of an n below 4 ^ k
 root_below : (k n : ℕ) → n < 4 ^ k → (integer_root k n * integer_root k n ≤ n) × (n < (integer_root k n + 1) * (integer_root k n + 1))

@@ -4,4 +4,4 @@ use Rattle.root.specs.declared.RootState.{RootState}
 
 -- The radicand's digits so far are significand² + remainder, and the others are still to come: 4 ^ k times the first radicand, once k digits of the root are found.
 abbrev pub scaled_radicand : RootState → ℕ
-scaled_radicand s = (s.root.number.significand * s.root.number.significand + s.root.number.remainder) * 2 ^ 64 + s.radicand
+scaled_radicand s = (s.root.significand * s.root.significand + s.root.remainder) * 2 ^ 64 + s.radicand

@@ -1,50 +1,30 @@
 // Square root on binary64: squareRoot (IEEE 754-2019, 5.4.1), rounded to nearest, ties to even (IEEE
-// 754-2019, 4.3.1). The digits of the root come at once, from a candidate that is tested, or one by
-// one.
+// 754-2019, 4.3.1). The root comes at once, as a candidate that passes an exact test, or its digits
+// are taken one by one.
 #![tactic(auto)]
 
-ghost use Rattle.std.specs.Prelude.{◌≡◌, if◌then◌else◌, ◌==◌, ◌+◌, ◌*◌, ◌%◌, ◌^◌, ◌<◌, ◌≤◌, T};
+ghost use Rattle.std.specs.Prelude.{◌≡◌, true, if◌then◌else◌, ◌==◌, ◌+◌, ◌*◌, ◌%◌, ◌^◌, ◌<◌, ◌≤◌, T};
 ghost use Rattle.std.specs.Float.{binary64};
 ghost use Rattle.std.specs.Float.Ieee.Positive.{positive};
 ghost use Rattle.root.specs.Root.{scaled_root, square_root};
 
-// The number significand^2 + remainder.
-#[derive(Clone, Copy)]
-struct RootAndRemainder {
-    significand: u64,
-    remainder: u64,
-}
+use words::TwoWords;
 
-impl RootAndRemainder {
-    // The same number with the next significand, where the remainder has room for it.
-    fn corrected(self) -> Self
-        requires { self.significand < 2 ^ 62 }
-        ensures { (result.significand ≤ self.significand + 1) × (result.significand * result.significand + result.remainder ≡ self.significand * self.significand + self.remainder) }
-    {
-        let twice = self.significand * 2;
-        if self.remainder <= twice {
-            return self;
-        }
-        Self {
-            significand: self.significand + 1,
-            remainder: self.remainder - twice - 1,
-        }
-    }
-}
-
-// The same, its significand the integer root: the next one's square is above the number.
+// The number significand^2 + remainder, its significand the integer root: the next one's square is
+// above the number.
 #[derive(Clone, Copy)]
 struct SquareRoot {
-    number: RootAndRemainder,
-    ghost greatest: { number.remainder ≤ 2 * number.significand },
+    significand: u64,
+    remainder: u64,
+    ghost greatest: { remainder ≤ 2 * significand },
 }
 
 impl SquareRoot {
     // 1 where digits are left behind those worked out, and else 0.
     fn sticky_bit(self) -> u64
-        ensures { result ≡ (if self.number.remainder == 0 then 0 else 1) }
+        ensures { result ≡ (if self.remainder == 0 then 0 else 1) }
     {
-        u64::from(self.number.remainder != 0)
+        u64::from(self.remainder != 0)
     }
 }
 
@@ -61,35 +41,29 @@ impl RootState {
 
     // One more digit of the root, from two more of the radicand.
     fn next_digit(self) -> Self
-        requires { self.root.number.significand < 2 ^ 59 }
-        ensures { (result.root.number.significand ≤ 2 * self.root.number.significand + 1) × (scaled_radicand result ≡ 4 * scaled_radicand self) }
+        requires { self.root.significand < 2 ^ 59 }
+        ensures { (result.root.significand ≤ 2 * self.root.significand + 1) × (scaled_radicand result ≡ 4 * scaled_radicand self) }
     {
         let radicand = self.radicand % 0x4000_0000_0000_0000 * 4;
-        let remainder = self.root.number.remainder * 4 + self.radicand / 0x4000_0000_0000_0000;
-        let trial = self.root.number.significand * 4 + 1;
+        let remainder = self.root.remainder * 4 + self.radicand / 0x4000_0000_0000_0000;
+        let trial = self.root.significand * 4 + 1;
         if remainder < trial {
-            let number = RootAndRemainder {
-                significand: self.root.number.significand * 2,
+            let root = SquareRoot {
+                significand: self.root.significand * 2,
                 remainder,
             };
-            return Self {
-                root: SquareRoot { number },
-                radicand,
-            };
+            return Self { root, radicand };
         }
-        let number = RootAndRemainder {
-            significand: self.root.number.significand * 2 + 1,
+        let root = SquareRoot {
+            significand: self.root.significand * 2 + 1,
             remainder: remainder - trial,
         };
-        Self {
-            root: SquareRoot { number },
-            radicand,
-        }
+        Self { root, radicand }
     }
 
     // `count` more digits of the root.
     fn next_digits(self, count: u64) -> Self
-        requires { (self.root.number.significand + 1) * 2 ^ count ≤ 2 ^ 60 }
+        requires { (self.root.significand + 1) * 2 ^ count ≤ 2 ^ 60 }
         ensures { scaled_radicand result ≡ 4 ^ count * scaled_radicand self }
     {
         let mut state = self;
@@ -100,95 +74,15 @@ impl RootState {
     }
 }
 
-// a * b
-fn product(a: u32, b: u32) -> u64
-    ensures { result ≡ a * b }
-{
-    u64::from(a) * u64::from(b)
-}
-
-// The low half of a word.
-fn low_half(word: u64) -> u32
-    ensures { result ≡ word % 2 ^ 32 }
-{
-    (word % 0x1_0000_0000) as u32
-}
-
-// A step of Newton's method towards 2^31 / sqrt(x), for x = word / 2^30 from 1 to 4: z times
-// (3 - x * (z / 2^31)^2) / 2.
-fn newton_step(word: u32, z: u32) -> u32 {
-    let square = low_half(product(z, z) / 0x8000_0000);
-    let factor = low_half(
-        0x6000_0000_0000_0000_u64.wrapping_sub(product(word, square)) / 0x8000_0000,
-    );
-    low_half(product(z, factor) / 0x8000_0000)
-}
-
-// 2^31 / sqrt(x) for x = word / 2^30 from 1 to 4, to about 29 bits. For x up to 2, 1 / sqrt(x) is
-// first taken as 1.5796 - 0.7305 x + 0.1477 x^2, off by a third of a percent at most; for x above,
-// as that of x / 2, over sqrt(2). Each of the two steps doubles the digits that are right. Another
-// estimate would change no result: where it is too far off, the candidate fails its test.
-fn reciprocal_root(word: u32) -> u32 {
-    let upper = word / 0x8000_0000;
-    let bend = product(word, 2_537_300_000 - 2_088_800_000 * upper) / 0x1_0000_0000;
-    let slope = (3_137_500_000 - 2_028_200_000 * upper).wrapping_sub(low_half(bend));
-    let fall = product(word, slope) / 0x8000_0000;
-    let estimate = (3_392_200_000 - 993_500_000 * upper).wrapping_sub(low_half(fall));
-    newton_step(word, newton_step(word, estimate))
-}
-
-// The number high * 2^22 + low.
-#[derive(Clone, Copy)]
-struct RootCandidate {
-    high: u32,
-    low: u32,
-    ghost low_in_range: { low < 2 ^ 26 },
-}
-
-// The root of radicand * 2^44, or one less. The high part is a few units short; the low part is
-// what the radicand has left, over twice the high part, and a quarter short. Of all this only the
-// sizes are promised, for the products to fit a word: `root_digits` tests the candidate, so that
-// differences may wrap, and no proof has to say how near the estimates are.
-fn root_candidate(radicand: u64) -> RootCandidate {
-    let word = low_half(radicand / 0x1_0000_0000);
-    let reciprocal = reciprocal_root(word);
-    let high = low_half(product(word, reciprocal) / 0x4000_0000).wrapping_sub(5);
-    let rest = radicand.wrapping_sub(product(high, high));
-    let quotient = product(low_half(rest / 32), reciprocal);
-    let short = quotient.wrapping_sub(0x4_0000_0000);
-    RootCandidate {
-        high,
-        low: (short / 0x10_0000_0000 % 0x400_0000) as u32,
-    }
-}
-
-// The 54 digits of the root of radicand * 2^44. A candidate that passes the test is right, however
-// it was found; after one that fails, the digits are taken one by one. Its square is taken off in
-// parts, high^2 * 2^44, high * low * 2^23 and low^2; where a difference wraps, the test fails.
+// The 54 digits of the root of radicand * 2^44, one by one.
 fn root_digits(radicand: u64) -> SquareRoot
     requires { 2 ^ 62 ≤ radicand }
-    ensures { result.number.significand * result.number.significand + result.number.remainder ≡ radicand * 2 ^ 44 }
+    ensures { result.significand * result.significand + result.remainder ≡ radicand * 2 ^ 44 }
 {
-    let c = root_candidate(radicand);
-    let rest = radicand.wrapping_sub(product(c.high, c.high));
-    let left = (rest << 21).wrapping_sub(product(c.high, c.low));
-    let candidate = RootAndRemainder {
-        significand: c.high as u64 * 0x40_0000 + c.low as u64,
-        remainder: (left << 23).wrapping_sub(product(c.low, c.low)),
-    };
-    let root = candidate.corrected();
-    if (rest < 0x40_0000_0000)
-        & (left < 0x200_0000_0000)
-        & (root.remainder <= root.significand * 2)
-    {
-        return SquareRoot { number: root };
-    }
     let start = RootState {
         root: SquareRoot {
-            number: RootAndRemainder {
-                significand: 0,
-                remainder: 0,
-            },
+            significand: 0,
+            remainder: 0,
         },
         radicand,
     };
@@ -207,26 +101,63 @@ fn root_of_word(radicand: u64, half: u64) -> f64
     let root = root_digits(radicand);
     rounding::round_and_pack_word(
         false,
-        root.number.significand * 1024 + root.sticky_bit(),
+        root.significand * 1024 + root.sticky_bit(),
         half + 1739,
     )
+}
+
+// The leading bit of a normal value's significand.
+const LEADING_BIT: u64 = 0x10_0000_0000_0000;
+
+// Whether a candidate is that root. Its exponent has to be the one that half tells, and its
+// significand the k with k - 1/2 < root < k + 1/2: squared, in whole numbers, of which none is the
+// square of k and a half. A candidate that passes is right, however it was found.
+fn is_root(radicand: u64, half: u64, candidate: f64) -> bool
+    requires top_bits { 2 ^ 62 ≤ radicand }
+    requires half_in_range { half < 1500 }
+    ensures { result ≡ true → candidate ≡ scaled_root binary64 (radicand * 2 ^ (2 * half + 1010)) }
+{
+    if candidate.is_nan() {
+        return false;
+    }
+    let bits = candidate.to_bits();
+    let significand = LEADING_BIT + bits % LEADING_BIT;
+    if bits != (half + 484) * LEADING_BIT + significand {
+        return false;
+    }
+    let number = words::multiply(radicand, 1 << 42);
+    let square = words::multiply(significand, significand);
+    let reach = TwoWords {
+        hi: 0,
+        lo: significand,
+    };
+    (square < number + reach) & !(square + reach < number)
 }
 
 // The root of a value above zero. Its significand is brought to its top bit, or to the one below
 // where that makes the exponent even, and the exponent is halved. There is no branch, as a
 // processor could not foresee it: odd exponents are as common as even ones.
+// The library's root, the processor's instruction, is a candidate and no more: document 01 has the
+// root go by its digits, and nothing here rests on that root's contract. They are taken where the
+// candidate fails.
 fn root_of_positive(x: f64) -> f64
     requires { T (positive x) }
     ensures { result ≡ square_root binary64 x }
 {
     let n = rounding::normalise_significand(rounding::unpack(x));
     let odd = n.exponent % 2;
-    root_of_word(n.significand >> odd, n.exponent / 2 + odd)
+    let radicand = n.significand >> odd;
+    let half = n.exponent / 2 + odd;
+    let candidate = x.sqrt();
+    if is_root(radicand, half, candidate) {
+        candidate
+    } else {
+        root_of_word(radicand, half)
+    }
 }
 
 // The square root, rounded to nearest, ties to even (IEEE 754-2019, 4.3.1). A zero is its own root,
-// and so are +∞ and NaN; a number below zero has none. Not the library's, which is the processor's instruction and whose contract
-// is taken as it is: document 01 has the root go by its digits, and here they are proved.
+// and so are +∞ and NaN; a number below zero has none.
 pub fn sqrt(x: f64) -> f64
     ensures { result ≡ square_root binary64 x }
 {

@@ -40,7 +40,7 @@ returns-in_err-face c =
 pub returns-then-not-triple_below : goal.returns-then-not-triple_below
 returns-then-not-triple_below c =
     let t = c.in_ok-table.ensures in
-    let on_face = rw c.master_face_of.ensures at c.sub_triangle_on-t.ensures in
+    let on_face = rw c.master_face_of.ensures at c.rhombus_on-rhombus.ensures in
     let below = rw c.vertex_count.ensures at c.triple_below.ensures in
     rw c.if-not-triple_below.true at
     (answered c.args.frequency _ _ c.args.id_table.now _ c.args.direction _ _ _ _ _ c.in_ok-lattice.ensures t.0 t.1 t.2 c.in_ok-p.ensures c.in_ok-face.ensures on_face c.corner_ids-triple.ensures below)
@@ -48,7 +48,7 @@ returns-then-not-triple_below c =
 pub returns : goal.returns
 returns c =
     let t = c.in_ok-table.ensures in
-    let on_face = rw c.master_face_of.ensures at c.sub_triangle_on-t.ensures in
+    let on_face = rw c.master_face_of.ensures at c.rhombus_on-rhombus.ensures in
     let below = rw c.vertex_count.ensures at c.triple_below.ensures in
-    rw c.if-not-triple_below.false at
-    (answered c.args.frequency _ _ c.args.id_table.now _ c.args.direction _ _ _ _ _ c.in_ok-lattice.ensures t.0 t.1 t.2 c.in_ok-p.ensures c.in_ok-face.ensures on_face c.corner_ids-triple.ensures below)
+    rw c.weights.ensures (rw c.if-not-triple_below.false at
+    (answered c.args.frequency _ _ c.args.id_table.now _ c.args.direction _ _ _ _ _ c.in_ok-lattice.ensures t.0 t.1 t.2 c.in_ok-p.ensures c.in_ok-face.ensures on_face c.corner_ids-triple.ensures below))

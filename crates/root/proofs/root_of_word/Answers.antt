@@ -12,11 +12,11 @@ overflow_add-root c =
 pub round_and_pack_word-requires : goal.round_and_pack_word-requires
 round_and_pack_word-requires c =
     let root = c.root_digits-root in
-    omega (arith, full_significand root.result.number.significand root.result.number.remainder c.args.radicand root.result.greatest root.ensures c.requires.top_bits)
+    omega (arith, full_significand root.result.significand root.result.remainder c.args.radicand root.result.greatest root.ensures c.requires.top_bits)
 
 pub returns : goal.returns
 returns c =
     let root = c.root_digits-root in
     c.round_and_pack_word.ensures
-    ∙ word_rounds root.result.number.significand root.result.number.remainder c.args.radicand c.args.half c.sticky_bit.result root.result.greatest root.ensures c.requires.top_bits
+    ∙ word_rounds root.result.significand root.result.remainder c.args.radicand c.args.half c.sticky_bit.result root.result.greatest root.ensures c.requires.top_bits
     (search rules) (λ z. grind (arith, nat_tests)) (λ z. grind (arith, nat_tests))

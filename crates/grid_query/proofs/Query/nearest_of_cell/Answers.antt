@@ -1,6 +1,6 @@
 use Rattle.std.proofs.Common.{sym, rules}
 use Rattle.std.proofs.lemmas.Result.{err_from_is_err_and}
-use Rattle.grid_query.proofs.AtParts.{cell_part_refused, cell_empty, cell_foreign, cell_nearest}
+use Rattle.grid_query.proofs.AtParts.{cell_part_refused, cell_empty, cell_scanned}
 use Rattle.grid_query.proofs.Query.nearest_of_cell.Goals as goal
 
 pub returns-in_err-candidates : goal.returns-in_err-candidates
@@ -11,12 +11,5 @@ returns-in_err-candidates c =
 pub returns-then-is_empty : goal.returns-then-is_empty
 returns-then-is_empty c = rw (← c.grid.view_is) (sym (cell_empty _ _ _ _ c.in_ok-candidates.ensures.passed _ c.in_ok-candidates.ensures.read (search rules)))
 
-pub returns-then-not-ids_below : goal.returns-then-not-ids_below
-returns-then-not-ids_below c =
-    rw (← c.grid.view_is)
-    (sym (cell_foreign _ _ _ _ c.in_ok-candidates.ensures.passed _ c.in_ok-candidates.ensures.read (search rules) (rw c.vertex_count.ensures at (sym c.if-not-ids_below.ensures))))
-
 pub returns : goal.returns
-returns c =
-    rw (← c.grid.view_is, c.nearest_in_cell.ensures)
-    (sym (cell_nearest _ _ _ _ c.in_ok-candidates.ensures.passed _ c.in_ok-candidates.ensures.read (search rules) (rw c.vertex_count.ensures at (sym c.if-not-ids_below.ensures))))
+returns c = rw (← c.grid.view_is, c.nearest_in_cell.ensures) (sym (cell_scanned _ _ _ _ c.in_ok-candidates.ensures.passed _ c.in_ok-candidates.ensures.read (search rules)))
