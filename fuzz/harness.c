@@ -152,6 +152,8 @@ static void arithmetic(draw *d) {
     COMPARE(mul_add, same, fma(x, y, z), x, y, z);
     COMPARE(sqrt, same, sqrt(x), x);
     COMPARE(sqrt, same, sqrt(fabs(y)), fabs(y));
+    COMPARE(sqrt_by_digits, same, sqrt(x), x);
+    COMPARE(sqrt_by_digits, same, sqrt(fabs(y)), fabs(y));
 }
 
 static void vectors(draw *d) {

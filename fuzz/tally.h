@@ -9,12 +9,12 @@
 
 /* Every function of koshirga.h, in its order. */
 #define ENTRY_POINTS(X)                                                                           \
-    X(total_cmp) X(rank) X(minimum_number) X(floor) X(ceil) X(to_i64) X(mul_add) X(sqrt) X(dot)   \
-    X(cross) X(minus) X(plus) X(scale) X(divide) X(norm_squared) X(norm) X(normalize)             \
-    X(direction) X(projected_barycentric) X(least_weight) X(walk) X(renumber) X(mark_ascending)   \
-    X(choose_face) X(analytic_locate) X(analytic_nearest) X(lattice) X(build_grid)                \
-    X(grid_nearest) X(grid_locate) X(mark_ascending_of) X(walk_mesh) X(build_grid_of)             \
-    X(nearest_in) X(locate_in)
+    X(total_cmp) X(rank) X(minimum_number) X(floor) X(ceil) X(to_i64) X(mul_add) X(sqrt)          \
+    X(sqrt_by_digits) X(dot) X(cross) X(minus) X(plus) X(scale) X(divide) X(norm_squared)         \
+    X(norm) X(normalize) X(direction) X(projected_barycentric) X(least_weight) X(walk)            \
+    X(renumber) X(mark_ascending) X(choose_face) X(analytic_locate) X(analytic_nearest)           \
+    X(lattice) X(build_grid) X(grid_nearest) X(grid_locate) X(mark_ascending_of) X(walk_mesh)     \
+    X(build_grid_of) X(nearest_in) X(locate_in)
 
 #define ENTRY(name) ENTRY_##name,
 typedef enum entry { ENTRY_POINTS(ENTRY) ENTRIES } entry;

@@ -52,7 +52,7 @@
 #include <stdint.h>
 
 #define KOSHIRGA_VERSION_MAJOR 0
-#define KOSHIRGA_VERSION_MINOR 6
+#define KOSHIRGA_VERSION_MINOR 7
 #define KOSHIRGA_VERSION_PATCH 0
 
 #ifdef __cplusplus
@@ -182,6 +182,11 @@ double koshirga_mul_add(double a, double b, double c);
 /* The square root, exact and then rounded to nearest, ties to even: squareRoot (IEEE 754-2019,
  * 5.4.1 and 4.3.1). The root of -0 is -0 (6.3), that of a number below zero a NaN (7.2). */
 double koshirga_sqrt(double x);
+
+/* The same bits, the digits of the root taken one by one, as a laboratory may want to see them run.
+ * koshirga_sqrt takes them where the processor's root is not the rounded one, and is faster where
+ * it is. */
+double koshirga_sqrt_by_digits(double x);
 
 /* ---- vectors */
 

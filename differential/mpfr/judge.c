@@ -1,10 +1,11 @@
-/* Compares koshirga_mul_add, koshirga_minimum_number and koshirga_sqrt with MPFR, rounded to
- * binary64.
+/* Compares koshirga_mul_add, koshirga_minimum_number, koshirga_sqrt and koshirga_sqrt_by_digits with
+ * MPFR, rounded to binary64.
  *
  * Standard input, from `compare cases`: for each class of cases a line with the number of operands
- * (3: mul_add, 2: minimum_number, 1: sqrt), the number of cases and the name, then the operands as
- * they lie in memory.
- * Each class has its line on standard output; the sums have theirs in the file that the argument
+ * (3: mul_add, 2: minimum_number, 1: both roots), the number of cases and the name, then the
+ * operands as they lie in memory.
+ * Each class has its line on standard output, with the number of comparisons: two for a radicand,
+ * one for other operands. The sums have theirs in the file that the argument
  * names, as `compare` writes it.
  * Exit status: 0 no difference; 1 some; 2 input that can't be read, or a file that can't be written.
  */
@@ -69,14 +70,19 @@ static double by_mpfr(int operands, const double *x) {
     return mpfr_get_d(result, MPFR_RNDN);
 }
 
-static double by_koshirga(int operands, const double *x) {
+/* How many calls have so many operands. */
+static int calls_of(int operands) { return operands == 1 ? 2 : 1; }
+
+static double by_koshirga(int operands, int call, const double *x) {
     if (operands == 3)
         return koshirga_mul_add(x[0], x[1], x[2]);
-    return operands == 2 ? koshirga_minimum_number(x[0], x[1]) : koshirga_sqrt(x[0]);
+    if (operands == 2)
+        return koshirga_minimum_number(x[0], x[1]);
+    return call == 0 ? koshirga_sqrt(x[0]) : koshirga_sqrt_by_digits(x[0]);
 }
 
-static void describe(int operands, const double *x, double ours, double mpfr) {
-    printf("    differs:");
+static void describe(int operands, int call, const double *x, double ours, double mpfr) {
+    printf("    call %d differs:", call);
     for (int i = 0; i < operands; i++)
         printf(" 0x%016" PRIx64, bits_of(x[i]));
     printf(": %a, MPFR %a\n", ours, mpfr);
@@ -111,22 +117,31 @@ static double seconds(void) {
 static uint64_t judge(const class_head *head) {
     const size_t operands = (size_t)head->operands;
     const double start = seconds();
+    const int calls = calls_of(head->operands);
+    const uint64_t comparisons = head->count * (uint64_t)calls;
     double described[DESCRIBED][OPERANDS];
+    int described_call[DESCRIBED];
     uint64_t differences = 0;
     for (uint64_t i = 0; i < head->count; i++) {
         double x[OPERANDS];
         if (fread(x, sizeof *x, operands, stdin) != operands)
             unreadable();
-        if (!same(by_koshirga(head->operands, x), by_mpfr(head->operands, x))) {
-            if (differences < DESCRIBED)
+        const double mpfr = by_mpfr(head->operands, x);
+        for (int call = 0; call < calls; call++) {
+            if (same(by_koshirga(head->operands, call, x), mpfr))
+                continue;
+            if (differences < DESCRIBED) {
                 memcpy(described[differences], x, sizeof x);
+                described_call[differences] = call;
+            }
             differences++;
         }
     }
-    printf("%-10s  %-30s  %11" PRIu64 "  %11" PRIu64 "  %7.2f\n", "mpfr", head->name, head->count,
+    printf("%-10s  %-30s  %11" PRIu64 "  %11" PRIu64 "  %7.2f\n", "mpfr", head->name, comparisons,
            differences, seconds() - start);
     for (uint64_t i = 0; i < differences && i < DESCRIBED; i++)
-        describe(head->operands, described[i], by_koshirga(head->operands, described[i]),
+        describe(head->operands, described_call[i], described[i],
+                 by_koshirga(head->operands, described_call[i], described[i]),
                  by_mpfr(head->operands, described[i]));
     fflush(stdout);
     return differences;
@@ -149,7 +164,7 @@ int main(int arguments, char **argument) {
     printf("judge: MPFR %s\n", mpfr_get_version());
     while (read_head(&head)) {
         differences += judge(&head);
-        count += head.count;
+        count += head.count * (uint64_t)calls_of(head.operands);
         classes++;
     }
     if (classes == 0)

@@ -152,6 +152,17 @@ pub fn sqrt(x: f64) -> f64 {
     ffi::koshirga_sqrt(x)
 }
 
+/// The same bits, the digits of the root taken one by one, as a laboratory may want to see them run.
+/// [`sqrt`] takes them where the processor's root is not the rounded one, and is faster where it is.
+///
+/// ```
+/// assert_eq!(koshirga::sqrt_by_digits(2.25), 1.5);
+/// ```
+#[inline]
+pub fn sqrt_by_digits(x: f64) -> f64 {
+    ffi::koshirga_sqrt_by_digits(x)
+}
+
 #[cfg(test)]
 mod tests {
     use super::*;
@@ -432,10 +443,14 @@ mod tests {
             (f64::MAX, 2f64.powi(512).next_down()),
             (f64::INFINITY, f64::INFINITY),
         ] {
-            assert_eq!(sqrt(x).to_bits(), f64::to_bits(root), "root of {x:e}");
+            for ours in [sqrt(x), sqrt_by_digits(x)] {
+                assert_eq!(ours.to_bits(), f64::to_bits(root), "root of {x:e}");
+            }
         }
         for x in [-LEAST, -1.0, f64::NEG_INFINITY, f64::NAN] {
-            assert!(sqrt(x).is_nan(), "root of {x:e}");
+            for ours in [sqrt(x), sqrt_by_digits(x)] {
+                assert!(ours.is_nan(), "root of {x:e}");
+            }
         }
     }
 }

@@ -80,6 +80,7 @@ unsafe extern "C" {
     pub safe fn koshirga_to_i64(x: f64) -> ConversionAnswer;
     pub safe fn koshirga_mul_add(a: f64, b: f64, c: f64) -> f64;
     pub safe fn koshirga_sqrt(x: f64) -> f64;
+    pub safe fn koshirga_sqrt_by_digits(x: f64) -> f64;
 
     pub safe fn koshirga_dot(a: Vector3, b: Vector3) -> f64;
     pub safe fn koshirga_cross(a: Vector3, b: Vector3) -> Vector3;

@@ -35,7 +35,8 @@ mod weights;
 
 pub use analytic::{choose_face, AnalyticLattice, Outside, Signs};
 pub use binary64::{
-    ceil, floor, minimum_number, mul_add, rank, sqrt, to_i64, total_cmp, Conversion, Converted,
+    ceil, floor, minimum_number, mul_add, rank, sqrt, sqrt_by_digits, to_i64, total_cmp,
+    Conversion, Converted,
 };
 pub use grid::{build_grid, Built, FaceGrid, Grid, GridMut, Located, Nearest, Settings};
 pub use lattice::{lattice_geometry, LatticeGeometry};

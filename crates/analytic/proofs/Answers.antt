@@ -14,13 +14,11 @@ use Rattle.icosahedron.specs.Frequency.{frequency_of}
 use Rattle.icosahedron.proofs.Range.{frequency_passed}
 use Rattle.vector.specs.declared.Triple.{Triple}
 use Rattle.vector.specs.declared.Weights.{Weights}
-use Rattle.master_face.specs.declared.Three.{Three}
-use Rattle.analytic.specs.declared.Signs.{Signs}
 use Rattle.analytic.specs.declared.Located.{Located}
 use Rattle.master_face.specs.MasterFace.{master_face_of}
 use Rattle.analytic.specs.FaceChoice.{signs_of, outside_first, flag_sum, flags_fit, mapped_face, choose_face, face_choice_of}
 use Rattle.analytic.specs.SubTriangle.{SubTriangle, sub_triangle_on}
-use Rattle.analytic.proofs.FaceMapping.{mapped_face_below}
+use Rattle.analytic.specs.Laws.{TripleBelow}
 use Rattle.analytic.specs.Location.{corner_ids, triple_below, located, locate_on, query_rows, analytic_locate, last_greatest, corner_of, analytic_nearest}
 
 -- ---- the choice of a face
@@ -32,11 +30,6 @@ by_row_accepted false reason chosen x e = cc
 by_row_refused : {A : Type 0} (test : Bool) (own reason : Refusal) (chosen : A) → answer (row test own (Ok tt)) Err (Ok chosen) ≡ Err reason → (test ≡ false) × (reason ≡ own)
 by_row_refused true own reason chosen e = cc
 by_row_refused false own reason chosen e = (refl, cc)
-
--- a chosen face is one of the twenty
-pub chosen_face_below : (s : Signs) (o : Three Bool) (face : ℕ) → choose_face s o ≡ Ok face → face < 20
-unfolding choose_face
-chosen_face_below s o face e = omega (arith, (by_row_accepted (flags_fit o) Flags (mapped_face s (flag_sum o)) face e).1, mapped_face_below s (flag_sum o))
 
 module _ (p : Vector3) where
   pub face_chosen : (face : ℕ) → face_choice_of p ≡ Ok face → (flags_fit (outside_first p) ≡ true) × (face ≡ mapped_face (signs_of p) (flag_sum (outside_first p)))
@@ -73,12 +66,6 @@ module _ (n : ℕ) (ids : List ℕ) (p : Vector3) where
         location_accepted h = rw (row_1, row_8, row_9, h)
 
 -- ---- every id given out is below the vertex count
--- the three ids of a triple lie below a bound
-pub record TripleBelow (bound : ℕ) (t : Triple) : Type 0 where
-  pub first_below : t.first < bound
-  pub second_below : t.second < bound
-  pub third_below : t.third < bound
-
 triple_below_lem : (bound : ℕ) (t : Triple) → triple_below bound t ≡ true → TripleBelow bound t
 unfolding triple_below
 triple_below_lem bound t e =
@@ -98,7 +85,7 @@ located_on_below n ids face p l e =
     let same : l.triple ≡ triple = ap (λ (x : Located). x.triple) k.1 in
     rw same (triple_below_lem (lattice_vertex_count n) triple k.0)
 
--- Demand 1: the ids of a located triple are ids of the lattice, whatever the table holds.
+-- The ids of a located triple are ids of the lattice, whatever the table holds.
 pub located_below : (n : ℕ) (ids : List ℕ) (p : Vector3) (l : Located) → analytic_locate n ids p ≡ Ok l → TripleBelow (lattice_vertex_count n) l.triple
 unfolding analytic_locate
 located_below n ids p l e =

@@ -30,7 +30,7 @@ mapped_face s k = slice_index (mapped_faces s.i s.j s.k) k
 abbrev pub flag_weight : Bool → ℕ → ℕ
 flag_weight flag weight = cond flag weight 0
 
--- Document 01, "Analytic location": "flags weigh 1, 2, 3"
+-- The flags weigh 1, 2 and 3.
 unfoldable pub flag_sum : Three Bool → ℕ
 flag_sum o = flag_weight o.first 1 + flag_weight o.second 2 + flag_weight o.third 3
 

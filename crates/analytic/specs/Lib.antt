@@ -1,3 +1,4 @@
 pub mod FaceChoice
 pub mod SubTriangle
 pub mod Location
+pub mod Laws

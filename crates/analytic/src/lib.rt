@@ -9,6 +9,7 @@ ghost use Rattle.analytic.specs.FaceChoice.{signs_of, flag_sum, mapped_face, fac
 ghost use Rattle.analytic.specs.SubTriangle.{orientation_limit, clamped_floor, sub_triangle, sub_triangle_at, sub_triangle_on};
 ghost use Rattle.analytic.specs.Location.{triple_below, analytic_locate, last_greatest, analytic_nearest};
 
+pub mod laws;
 mod slot_ids;
 
 use icosahedron::{Face, Frequency, icosahedron_point};
@@ -16,7 +17,7 @@ use master_face::faces::master_face_of;
 use master_face::{MasterFace, Three};
 use refusal::Refusal;
 use slot_ids::SlotIds;
-use vector::{Triple, Vector3, Weights};
+use vector::{Direction, Triple, Vector3, Weights};
 
 // On which side of each symmetry plane a point lies: whether on the negative one.
 #[derive(Clone, Copy)]
@@ -43,7 +44,7 @@ pub struct Rhombus {
 }
 
 // The triangle of a lattice that a direction meets: the ids of its corners, and their weights. The grid's `LocatedTriangle` stands
-// apart: in document 01 its answer is "a triple with three weights and the least of them", and this one has no least.
+// apart: its answer has the least of the weights too.
 #[derive(Clone, Copy, Debug)]
 pub struct Located {
     pub triple: Triple,
@@ -70,7 +71,7 @@ fn flag_sum(outside: Three<bool>) -> usize
     usize::from(outside.first) + 2 * usize::from(outside.second) + 3 * usize::from(outside.third)
 }
 
-// One of the four faces that the signs leave. The place is the flag sum of document 01, 0 where the point lies beyond no plane.
+// One of the four faces that the signs leave. The place is the flag sum, 0 where the point lies beyond no plane.
 #[tactic(auto, using(crate::proofs::FaceMapping::table_mapped_face, crate::proofs::FaceMapping::mapped_face_below))]
 fn mapped_face(signs: Signs, place: usize) -> Face
     requires { place ≤ 3 }
@@ -117,9 +118,10 @@ fn signs_of(p: Vector3) -> Signs
 // Inlined: as a call of its own it would load components in pairs that were not stored so, and wait for the stores.
 #[inline(always)]
 #[tactic(auto, unfolding(crate::specs::FaceChoice::face_choice_of, crate::specs::FaceChoice::outside_first))]
-pub fn master_face(p: Vector3) -> Result<Face, Refusal>
-    ensures { face_index result ≡ face_choice_of p }
+pub fn master_face(direction: Direction) -> Result<Face, Refusal>
+    ensures { face_index result ≡ face_choice_of direction.vector }
 {
+    let p = direction.vector;
     let signs = signs_of(p);
     let first = master_face_of(mapped_face(signs, 0));
     choose_face(signs, first.outside(p))
@@ -198,11 +200,11 @@ fn rhombus_at(frequency: Frequency, u: f64, v: f64, w: f64) -> Rhombus
 // Called once a query: as a call of its own it costs some nanoseconds.
 #[inline(always)]
 #[tactic(auto, unfolding(crate::specs::SubTriangle::sub_triangle_on))]
-fn rhombus_on(frequency: Frequency, face: MasterFace, p: Vector3) -> Rhombus
-    ensures { sub_triangle result.least.a result.least.b result.fractions.u result.fractions.v result.fractions.w ≡ sub_triangle_on frequency.n face p }
+fn rhombus_on(frequency: Frequency, face: MasterFace, direction: Direction) -> Rhombus
+    ensures { sub_triangle result.least.a result.least.b result.fractions.u result.fractions.v result.fractions.w ≡ sub_triangle_on frequency.n face direction.vector }
 {
     let nf = frequency.n as f64;
-    let t = face.barycentric(face.projection(p));
+    let t = face.barycentric(face.projection(direction.vector));
     rhombus_at(frequency, t.u * nf, t.v * nf, t.w * nf)
 }
 
@@ -222,9 +224,9 @@ pub fn locate(frequency: u32, id_table: &[u16], direction: Vector3) -> Result<Lo
 {
     let lattice = Frequency::new(frequency as usize)?;
     let table = SlotIds::new(lattice, id_table)?;
-    let p = direction.admitted()?;
-    let face = master_face(p)?;
-    let rhombus = rhombus_on(lattice, master_face_of(face), p);
+    let admitted = Direction::new(direction)?;
+    let face = master_face(admitted)?;
+    let rhombus = rhombus_on(lattice, master_face_of(face), admitted);
     let triple = table.corner_ids(face, rhombus);
     if !triple_below(lattice.vertex_count(), triple) {
         return Err(Refusal::Id);

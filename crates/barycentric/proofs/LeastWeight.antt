@@ -13,18 +13,13 @@ use Rattle.binary64.proofs.MinimumRank.{minimum_commutes, minimum_associates}
 use Rattle.vector.specs.declared.Weights.{Weights}
 use Rattle.vector.specs.Triangle.{weights}
 use Rattle.barycentric.specs.LeastWeight.{least_weight}
+use Rattle.barycentric.specs.Laws.{NoneBelow, HasSameLeast}
 
 pub least_weight_nan : (t : Weights) → is_nan (least_weight t) ≡ (is_nan t.u && is_nan t.v && is_nan t.w)
 unfolding least_weight
 least_weight_nan t = minimum_nan (minimum_number t.u t.v) t.w ∙ ap (λ (b : Bool). b && is_nan t.w) (minimum_nan t.u t.v)
 
--- No weight is below the least; of a NaN that is so by itself.
-pub record NoneBelowLeast (t : Weights) : Type 0 where
-  pub u_not_below : lt t.u (least_weight t) ≡ false
-  pub v_not_below : lt t.v (least_weight t) ≡ false
-  pub w_not_below : lt t.w (least_weight t) ≡ false
-
-pub none_below_least : (t : Weights) → NoneBelowLeast t
+pub none_below_least : (t : Weights) → NoneBelow t
 unfolding least_weight
 none_below_least t =
     let two = minimum_number t.u t.v in
@@ -66,15 +61,7 @@ module _ (u v w : Float) (fu : T (fits binary64 u)) (fv : T (fits binary64 v)) (
   unfolding least_weight
   last_exchanged = minimum_associates u w v fu fw fv ∙ ap (minimum_number u) (minimum_commutes w v fw fv) ∙ sym (minimum_associates u v w fu fv fw)
 
--- The five other orders of three weights.
-pub record LeastInAnyOrder (u v w : Float) : Type 0 where
-  pub uwv : least_weight (weights u w v) ≡ least_weight (weights u v w)
-  pub vuw : least_weight (weights v u w) ≡ least_weight (weights u v w)
-  pub vwu : least_weight (weights v w u) ≡ least_weight (weights u v w)
-  pub wuv : least_weight (weights w u v) ≡ least_weight (weights u v w)
-  pub wvu : least_weight (weights w v u) ≡ least_weight (weights u v w)
-
-pub least_weight_any_order : (u v w : Float) → T (fits binary64 u) → T (fits binary64 v) → T (fits binary64 w) → LeastInAnyOrder u v w
+pub least_weight_any_order : (u v w : Float) → T (fits binary64 u) → T (fits binary64 v) → T (fits binary64 w) → HasSameLeast u v w
 least_weight_any_order u v w fu fv fw =
     let vuw' = first_exchanged u v w fu fv fw in
     let uwv' = last_exchanged u v w fu fv fw in

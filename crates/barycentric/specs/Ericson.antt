@@ -10,7 +10,7 @@ use Rattle.vector.specs.Vector.{dot_product, vector_difference}
 use Rattle.vector.specs.declared.Weights.{Weights}
 use Rattle.vector.specs.Triangle.{weights}
 
--- The book's va, vb and vc are differences of two products. Document 01: "in va, vb and vc the second product is rounded and negated, then the first is fused with it".
+-- The book's va, vb and vc are differences of two products: here the second product is rounded and negated, and the first is fused with it.
 abbrev pub fused_difference : Float → Float → Float → Float → Float
 fused_difference a b c d = fused_multiply_add binary64 a b (neg (mul binary64 c d))
 

@@ -1,2 +1,3 @@
 pub mod LeastWeight
 pub mod Ericson
+pub mod Laws

@@ -5,6 +5,8 @@ ghost use Rattle.std.specs.Prelude.{◌≡◌};
 ghost use Rattle.barycentric.specs.LeastWeight.{least_weight};
 ghost use Rattle.barycentric.specs.Ericson.{projected_barycentric};
 
+pub mod laws;
+
 use binary64::minimum_number;
 use fused::{mul_add, product_at_most};
 use vector::{Vector3, Weights};

@@ -1,5 +1,5 @@
 -- The four cases of a conversion. `case_holds` and `case_only`: exactly one holds of every datum. What the number then is: `held_is_an_end`, `kept_is_the_value`, `cut_toward_zero`. Assumes nothing.
-use Rattle.std.proofs.Common.{◌≡◌, ℕ, ◌+◌, ◌-◌, ◌*◌, ◌/◌, ◌%◌, ◌^◌, ◌<◌, ◌≤◌, min, Bool, true, false, cond, T, ◌≢◌, ◌⊎◌, ℤ, pos, negsuc, neg_ℤ, sym, refl, ap, subst, inl, inr, lt_of_mul-lt-mul_right, div-add-mod', div-mul-le_self, le_of_mul-le-mul_right, arith, ltb-true, lt-ltb, eqb-true}
+use Rattle.std.proofs.Common.{◌≡◌, ℕ, ◌+◌, ◌-◌, ◌*◌, ◌/◌, ◌%◌, ◌^◌, ◌<◌, ◌≤◌, min, Bool, true, false, T, ◌≢◌, ◌⊎◌, ℤ, pos, negsuc, neg_ℤ, sym, refl, ap, subst, inl, inr, lt_of_mul-lt-mul_right, div-add-mod', div-mul-le_self, le_of_mul-le-mul_right, arith, ltb-true, lt-ltb, eqb-true}
 use mathlib.Core.Bool.{false≢true}
 use lib.Ieee.{Float, nan, inf, fin, up, down, lt, le, ne, is_nan}
 use lib.Ieee.Exact.{HasValue}
@@ -7,7 +7,7 @@ use lib.Ieee.Fits.{down_pos}
 use borrow.Author.Tests.{eqb-false}
 use Rattle.binary64.specs.declared.Conversion.{Conversion}
 use Rattle.binary64.specs.declared.Conversion.TheVariants.{Kept, Cut, Held, NotANumber}
-use Rattle.binary64.specs.Convert.{to_i64, least_of_range, above_range, is_whole, CaseHolds, conversion_of}
+use Rattle.binary64.specs.Convert.{to_i64, least_of_range, above_range, is_whole, CaseHolds, conversion_of, signed_whole}
 use Rattle.binary64.proofs.Nan.{is_nan_lem, not_nan, same_number}
 use Rattle.binary64.proofs.FloatOrder.{lt_left_number, lt_not_le, le_not_lt, le_of_not_lt, not_le_lt}
 use Rattle.binary64.proofs.SignedOrder.{signed_of_le}
@@ -65,10 +65,6 @@ held_is_an_end x h = go (of_case x Held h)
     go : CaseHolds Held x → ((lt x least_of_range ≡ true) × (to_i64 x ≡ negsuc (2 ^ 63 - 1))) ⊎ ((le above_range x ≡ true) × (to_i64 x ≡ pos (2 ^ 63 - 1)))
     go (inl below) = inl (below, sym (held_low 63 x (lt_not_le x least_of_range below) (below_above x below)))
     go (inr beyond) = inr (beyond, sym (held_high 63 x (le_not_lt x above_range beyond) (same_number x (at_most_number x beyond))))
-
--- a whole number with a sign
-abbrev pub signed_whole : Bool → ℕ → ℤ
-signed_whole s n = cond s (neg_ℤ (pos n)) (pos n)
 
 -- In the range the number is the whole part of the magnitude, with the sign.
 below_end : (n d k : ℕ) → 0 < d → n * 1 < 1 * k * d → n / d < k

@@ -12,12 +12,12 @@ use Rattle.binary64.specs.declared.Conversion.{Conversion}
 use Rattle.binary64.specs.declared.Conversion.TheVariants.{Kept, Cut, Held, NotANumber}
 use Rattle.binary64.specs.declared.Converted.{Converted}
 use Rattle.binary64.specs.Integral.{negative, positive, round_to_integral}
-use Rattle.binary64.specs.Convert.{to_i64, least_of_range, above_range, is_whole, conversion_of, converted_of}
+use Rattle.binary64.specs.Convert.{to_i64, signed_whole, least_of_range, above_range, is_whole, conversion_of, converted_of}
 use Rattle.binary64.proofs.Nan.{only_nan, same_number}
 use Rattle.binary64.proofs.FloatOrder.{lt_left_number}
 use Rattle.binary64.proofs.Integral.{significand_bound, integral_exact}
 use Rattle.binary64.proofs.ConvertSteps.{held_high, held_low}
-use Rattle.binary64.proofs.ConversionCases.{signed_whole, whole_part_of, case_only}
+use Rattle.binary64.proofs.ConversionCases.{whole_part_of, case_only}
 
 abbrev pub converted : ℤ → Conversion → Converted
 converted whole how = record { whole = whole; how = how }

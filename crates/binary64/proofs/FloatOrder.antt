@@ -1,5 +1,5 @@
 -- What the answer of one comparison of floats, `lt` or `le`, tells of another's and of NaNs, by the library's order of floats. Assumes nothing.
-use Rattle.std.proofs.Common.{◌≡◌, true, false, T, ◌⊎◌, sym, ◌∙◌, refl, inl, inr, true≢false}
+use Rattle.std.proofs.Common.{◌≡◌, true, false, T, ◌⊎◌, refl, inl, inr, true≢false}
 use Rattle.std.proofs.lemmas.Bool.{cases_Bool, false_from_ne_true}
 use Rattle.std.proofs.lemmas.Float as float
 use Rattle.std.proofs.lemmas.Float.{T_from_true, T_from_false}
@@ -49,13 +49,6 @@ lt_not_le x y h = false_from_ne_true (le y x) (λ k. float.lt_irrefl x (float.lt
 
 pub le_not_lt : (x y : Float) → le y x ≡ true → lt x y ≡ false
 le_not_lt x y h = false_from_ne_true (lt x y) (λ k. float.lt_irrefl x (float.lt_of_lt_of_le x y x (T_from_true _ k) (T_from_true _ h)))
-
--- nothing lies above +∞, and nothing below −∞
-pub above_infinity : (z : Float) → lt (inf false) z ≡ true → ⊥
-above_infinity z h = true≢false (sym h ∙ le_not_lt (inf false) z (infinity_greatest z (lt_right_number (inf false) z h)))
-
-pub below_infinity : (x : Float) → lt x (inf true) ≡ true → ⊥
-below_infinity x h = true≢false (sym h ∙ le_not_lt x (inf true) (infinity_least x (lt_left_number x (inf true) h)))
 
 -- Of two numbers, infinities included, one that is not above the other is at most it.
 pub le_of_not_lt : (x y : Float) → is_nan x ≡ false → is_nan y ≡ false → lt y x ≡ false → le x y ≡ true

@@ -3,10 +3,10 @@ use Rattle.std.proofs.Common.{◌≡◌, ℕ, zero, suc, ◌+◌, ◌-◌, ◌*�
 use native.Mathlib.Nat.{mod-one, lt-div-mul-add}
 use lib.Dec.{eqb-suc-zero}
 use lib.Ieee.{Float, nan, inf, fin, Format, binary64, prec, emax, low, up, down, round, neg, le, fits, is_nan}
-use lib.Ieee.Fits.{down_pos, and_l, and_r, neg-fits, round-fits}
+use lib.Ieee.Fits.{down_pos, and_l, and_r, neg-fits}
 use lib.Ieee.Nearest.{div_same}
 use lib.Ieee.Exact.{HasValue, round_exact}
-use lib.Ieee.Back.{round_whole, whole_unique}
+use lib.Ieee.Back.{round_whole}
 use Rattle.std.specs.Float as Float
 use Rattle.std.specs.Float.{ratio_ceil}
 use Rattle.binary64.specs.Integral.{Toward, negative, away_from_zero, whole_magnitude, round_to_integral, floor_of, ceil_of}
@@ -124,19 +124,6 @@ integral_exact d (fin t m e) s a c h C v =
     (subst (λ (u : Bool). HasValue (round_to_integral d (fin t m e)) u (whole_magnitude (away_from_zero d u) (m * up e) (down e)) 1) v.0 (exact_parts d t m e h))
 integral_exact d nan s a c h C v = elim v [ ]
 integral_exact d (inf _) s a c h C v = elim v [ ]
-
--- The result is a value of the format.
-pub integral_fits : (d : Toward) (x : Float) → T (fits binary64 x) → T (fits binary64 (round_to_integral d x))
-unfolding round_to_integral
-integral_fits d nan t = t
-integral_fits d (inf s) t = t
-integral_fits d (fin s m e) t = round-fits binary64 s (whole_magnitude (away_from_zero d s) (m * up e) (down e)) 1
-
--- What is whole stays as it is.
-pub integral_of_whole : (d : Toward) (x : Float) (s : Bool) (n : ℕ) → T (fits binary64 x) → HasValue x s n 1 → x ≡ round_to_integral d x
-integral_of_whole d x s n h v =
-    whole_unique binary64 x (round_to_integral d x) s n h (integral_fits d x h) v
-    (subst (λ (k : ℕ). HasValue (round_to_integral d x) s k 1) (whole_of_whole (away_from_zero d s) n) (integral_exact d x s n 1 h (zero-lt-suc 0) v))
 
 -- ---- the floor is the greatest whole number that is not above x
 cut_at_most : (n d : ℕ) → whole_magnitude false n d * d ≤ n * 1

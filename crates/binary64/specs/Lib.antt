@@ -4,3 +4,4 @@ pub mod Convert
 pub mod Minimum
 pub mod Absolute
 pub mod Constants
+pub mod Laws

@@ -11,6 +11,8 @@ ghost use Rattle.binary64.specs.Minimum.{minimum_number};
 ghost use Rattle.binary64.specs.Integral.{floor_of, ceil_of};
 ghost use Rattle.binary64.specs.Convert.{to_i64, least_of_range, above_range, conversion_of, converted_of};
 
+pub mod laws;
+
 use std::cmp::Ordering;
 
 // The place of a bit pattern among all 2^64 in the total order, counted from 0.

@@ -36,15 +36,6 @@ unfolding spaced
 spaced_is ns few = ap (join_with_byte space) (decimals_are ns few)
 
 module _ {A : Type 0} (text : A → List ℕ) where
-  pub join_none : (xs : List A) → length xs < 1 → [] ≡ join_with_byte space (map text xs)
-  join_none [] lt = refl
-  join_none (x ∷ xs) lt = absurd (omega arith)
-
-  -- the first text alone
-  pub join_first : (xs : List A) (x : A) → 1 ≤ length xs → x ≡ get_or xs 0 x → text x ≡ join_with_byte space (take 1 (map text xs))
-  join_first [] x le e = absurd (omega arith)
-  join_first (y ∷ ys) x le e = ap text e
-
   -- one text more, that of x of those behind the first
   pub join_more : (xs : List A) (i : ℕ) (x : A) → i < length (take (length xs - 1) (drop 1 xs)) → x ≡ get_or (take (length xs - 1) (drop 1 xs)) i x
       → join_with_byte space (take (i + 1) (map text xs)) ++ (space ∷ text x) ≡ join_with_byte space (take (i + 1 + 1) (map text xs))
@@ -54,10 +45,3 @@ module _ {A : Type 0} (text : A → List ℕ) where
       let within : i < length ys = rw all at lt in
       let item : text x ≡ get_or (map text ys) i [] = ap text (rw all at e) ∙ sym (get_or-map text ys i x [] within) in
       rw (add-one (i + 1), add-one i, item) (sym (join_suc (map text (y ∷ ys)) i (omega (arith, length-map ys text))))
-
-  -- all of them
-  pub join_all : (xs : List A) (i : ℕ) → length (take (length xs - 1) (drop 1 xs)) ≤ i → join_with_byte space (take (i + 1) (map text xs)) ≡ join_with_byte space (map text xs)
-  join_all [] i le = ap (join_with_byte space) (take_all (i + 1) [] (omega arith))
-  join_all (y ∷ ys) i le =
-      let all : take (length (y ∷ ys) - 1) ys ≡ ys = take_all (length (y ∷ ys) - 1) ys (omega arith) in
-      ap (join_with_byte space) (take_all (i + 1) (map text (y ∷ ys)) (omega (arith, ap length all, length-map ys text)))

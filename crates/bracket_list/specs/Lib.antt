@@ -1,3 +1,4 @@
 pub mod Text
 pub mod LatticeList
 pub mod Output
+pub mod Program

@@ -10,6 +10,7 @@ ghost use Rattle.bracket_list.specs.LatticeList.{head_line, vertex_line, vertex_
 ghost use Rattle.bracket_list.specs.Output.{HasRoom, Written};
 
 mod lattice_lists;
+pub mod program;
 
 use arrayvec::ArrayVec;
 use itoa::{Buffer, Integer};

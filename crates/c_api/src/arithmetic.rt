@@ -59,3 +59,10 @@ pub fn koshirga_sqrt(x: f64) -> f64
 {
     root::sqrt(x)
 }
+
+// The same, its digits taken one by one.
+pub fn koshirga_sqrt_by_digits(x: f64) -> f64
+    ensures { result ≡ square_root binary64 x }
+{
+    root::sqrt_by_digits(x)
+}

@@ -7,7 +7,7 @@ ghost use Rattle.barycentric.specs.Ericson.{projected_barycentric};
 ghost use Rattle.c_api.specs.Code.{refusal_code};
 
 use crate::refusal_code;
-use vector::{Vector3, Weights};
+use vector::{Direction, Vector3, Weights};
 
 pub fn koshirga_dot(a: Vector3, b: Vector3) -> f64
     ensures { result ≡ dot_product a b }
@@ -67,7 +67,7 @@ pub fn koshirga_normalize(v: Vector3) -> Vector3
 pub fn koshirga_direction(v: Vector3) -> u32
     ensures { result ≡ refusal_code (direction_of v) }
 {
-    refusal_code(v.admitted())
+    refusal_code(Direction::new(v))
 }
 
 pub fn koshirga_projected_barycentric(p: Vector3, a: Vector3, b: Vector3, c: Vector3) -> Weights

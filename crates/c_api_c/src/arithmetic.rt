@@ -67,3 +67,11 @@ pub extern "C" fn koshirga_sqrt(x: f64) -> f64
 {
     c_api::arithmetic::koshirga_sqrt(x)
 }
+
+// The same, its digits taken one by one.
+#[unsafe(no_mangle)]
+pub extern "C" fn koshirga_sqrt_by_digits(x: f64) -> f64
+    ensures { result ≡ square_root binary64 x }
+{
+    c_api::arithmetic::koshirga_sqrt_by_digits(x)
+}

@@ -1,5 +1,5 @@
--- What a worked case of document 01 asks, and what the definitions that the code's contracts name answer. Definitions only.
-use Rattle.std.specs.Prelude.{ℕ, ◌≡◌, List, [], ◌∷◌, map, ltb, ℤ, length, Float}
+-- What a worked case asks, and what the definitions that the code's contracts name answer. Definitions only.
+use Rattle.std.specs.Prelude.{ℕ, ◌≡◌, List, [], ◌∷◌, map, nat_lt, ℤ, length, Float}
 use Rattle.std.specs.Float.{binary64}
 use Rattle.sequences.specs.Filter.{filter_range}
 use Rattle.binary64.specs.Convert.{to_i64}
@@ -41,9 +41,9 @@ pub data Answer : Type 0 where
   cells : List ℕ → List ℕ → Answer
 
 abbrev pub filled_cells : Grid → List ℕ
-filled_cells grid = filter_range (λ cell. ltb 0 (length (candidates grid cell))) (cell_count grid.side)
+filled_cells grid = filter_range (λ cell. nat_lt 0 (length (candidates grid cell))) (cell_count grid.side)
 
--- One vertex has no neighbours. 01's cases are at its own pair.
+-- One vertex has no neighbours. The factor and the margin are the usual ones, 1.2 and 1.
 abbrev pub grid_of_one : Vector3 → Grid
 grid_of_one position = grid_of (mesh_of (coordinates position) (0 ∷ 0 ∷ []) []) usual_settings
 

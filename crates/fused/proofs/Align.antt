@@ -108,10 +108,6 @@ align_second f s t X Y v d e b ax ay h sticky =
     subst (λ (z : ℕ). sum f s (X * 2 ^ z) t (v * 2 ^ z) (2 ^ (low f + b)) ≡ sum f s (X * 2 ^ z) t (Y * 2 ^ e) (2 ^ (low f + b))) k (sym (sum_aligned f s t X Y v (d - e) e b ax ay sticky))
 
 -- ---- as a program has the two: u has the upper exponent and l the lower one, and p says whether u is the second
-pub chosen_holds : {A : Type 0} (P : A → Type 0) (p : Bool) (x y r : A) → r ≡ cond p x y → P x → P y → P r
-chosen_holds P true x y r h hx hy = subst P (sym h) hx
-chosen_holds P false x y r h hx hy = subst P (sym h) hy
-
 abbrev magnitude : Scaled → ℕ
 magnitude z = value z.number.words * 2 ^ z.exponent
 
@@ -129,12 +125,6 @@ module _ (p : Bool) (x y u l : Scaled) (upper : u ≡ cond p y x) (lower : l ≡
       go : (p : Bool) → sum f (cond p y x).number.negative (magnitude (cond p y x)) (cond p x y).number.negative (magnitude (cond p x y)) c ≡ sum f x.number.negative (magnitude x) y.number.negative (magnitude y) c
       go true = sum_comm f y.number.negative x.number.negative (magnitude y) (magnitude x) c C
       go false = refl
-
-pub align_first : (f : Format) (s t : Bool) (X Y v d e b : ℕ) → Alignable X → Alignable Y → d < e → StickyEquivalent 2 (2 ^ (e - d)) X v
-    → sum f s (v * 2 ^ e) t (Y * 2 ^ e) (2 ^ (low f + b)) ≡ sum f s (X * 2 ^ d) t (Y * 2 ^ e) (2 ^ (low f + b))
-align_first f s t X Y v d e b ax ay h sticky =
-    let C : 0 < 2 ^ (low f + b) = pow_pos (low f + b) in
-    sum_comm f s t (v * 2 ^ e) (Y * 2 ^ e) (2 ^ (low f + b)) C ∙ align_second f t s Y X v e d b ay ax (le_of_lt h) sticky ∙ sum_comm f t s (Y * 2 ^ e) (X * 2 ^ d) (2 ^ (low f + b)) C
 
 pub alignable_pos : (x : ℕ) → Alignable x → 0 < x
 alignable_pos x h = lt_of_lt_of_le (lit< tt) h.least

@@ -22,7 +22,7 @@ unlike_comm true false = refl
 unlike_comm false true = refl
 unlike_comm false false = refl
 
-pub fused_monotone : (f : Format) → FusedKeepsOrder f
+pub fused_monotone : FusedKeepsOrder
 unfolding fused_multiply_add of_bits
 fused_monotone f (fin s m e) (fin t n d) (fin t' n' d') (fin u o g) A B B' C not_below h =
     let factor = signed_of_not_below (fin s m e) s (m * up e) (down e) (refl, refl) not_below in

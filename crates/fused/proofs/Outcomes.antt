@@ -28,9 +28,6 @@ module _ (f : Format) (s t : Bool) (a b e c v : ℕ) where
       ap (λ (z : ℕ). round f s z c) (ap (λ (z : ℕ). z * 2 ^ e) h ∙ sub_mul a b (2 ^ e))
       ∙ sym (sum_opposite_gt f s t (a * 2 ^ e) (b * 2 ^ e) c q (mul-lt-mul_of_pos_right (let k : b < a = omega arith in k) (pow_pos e)))
 
-  pub outcome_eq : (s ≡ t → ⊥) → b ≤ a → v ≡ a - b → v ≡ 0 → 0 < c → of_bits f 0 ≡ sum f s (a * 2 ^ e) t (b * 2 ^ e) c
-  outcome_eq q g h z C = zero_pattern f ∙ sym (sum_opposite_eq f s t (a * 2 ^ e) (b * 2 ^ e) c q (ap (λ (z : ℕ). z * 2 ^ e) (let k : a ≡ b = omega arith in k)) C)
-
 -- ---- the tests of the signs
 pub signs_differ : (s t : Bool) → beq s t ≡ false → s ≡ t → ⊥
 signs_differ true true e h = true≢false e

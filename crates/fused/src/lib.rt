@@ -13,7 +13,9 @@ ghost use Rattle.fused.specs.Fused.{fused_multiply_add};
 ghost use Rattle.fused.specs.Operands.{Alignable};
 ghost use Rattle.fused.specs.Tiny.{is_not_tiny};
 
-use rounding::Unpacked;
+pub mod laws;
+
+use rounding::{NORMALISED_SCALE, PRODUCT_SCALE, Unpacked};
 use words::{TwoWords, choose};
 
 // Whether none is an infinity or a NaN: each difference is 0, and else a NaN, which stays.
@@ -43,7 +45,7 @@ struct SignedWords {
     words: TwoWords,
 }
 
-// The value number * 2^exponent / 2^2276, which another may be aligned with and added to.
+// The value number * 2^exponent / 2^PRODUCT_SCALE, which another may be aligned with and added to.
 #[derive(Clone, Copy)]
 struct Scaled {
     number: SignedWords,
@@ -69,8 +71,8 @@ fn exact_product(x: Unpacked, y: Unpacked) -> Scaled
     }
 }
 
-// z, exactly. A quarter of it in the high word is 62 places up, and 1138 places lead from one scale
-// to the other.
+// z, exactly. A quarter of it in the high word is 62 places up, and the two scales make the rest of the
+// difference.
 fn exact_addend(z: Unpacked) -> Scaled
     requires nonzero { 0 < z.significand }
     ensures sign { result.number.negative ≡ z.negative }
@@ -85,7 +87,7 @@ fn exact_addend(z: Unpacked) -> Scaled
                 lo: 0,
             },
         },
-        exponent: n.exponent + 1076,
+        exponent: n.exponent + (PRODUCT_SCALE - NORMALISED_SCALE - 62),
     }
 }
 
@@ -149,8 +151,7 @@ fn mul_add_finite(a: f64, b: f64, c: f64) -> f64
     align_and_add(product, exact_addend(z))
 }
 
-// a * b + c, rounded once (IEEE 754-2019, 4.3.1). By hand, in two words: document 01 asks for the exact product plus addend whose
-// low words wrap, the carry taken from them, and for a significand brought to its top bit by its leading zeros.
+// a * b + c, rounded once (IEEE 754-2019, 4.3.1): the exact product plus the addend, in two words.
 pub fn mul_add(a: f64, b: f64, c: f64) -> f64
     ensures { result ≡ fused_multiply_add binary64 a b c }
 {

@@ -1,5 +1,5 @@
 -- What an accepted build tells: `built_below`. Every cell id and every id of a triple that it wrote is below the vertex count. Assumes nothing.
-use Rattle.std.proofs.Common.{◌≡◌, ℕ, ◌<◌, length, get_or}
+use Rattle.std.proofs.Common.{◌≡◌, ℕ}
 use mathlib.Core.List.{flatten}
 use Rattle.sequences.proofs.Tabulate.{get_d_member}
 use Rattle.sequences.proofs.Starts.{concatenate_member, flatten_member}
@@ -10,15 +10,11 @@ use Rattle.mesh.proofs.Facts.{AdjacencyFacts, mesh_facts}
 use Rattle.grid.specs.declared.settings.Settings.{Settings}
 use Rattle.std.specs.Prelude.{Ok}
 use Rattle.grid.specs.Triangles.{triangles_at}
-use Rattle.grid.specs.Grid.{Grid, GridSlices, built, ids_in, grid_of, build_rows, build_grid, cut}
+use Rattle.grid.specs.Grid.{GridSlices, built, ids_in, grid_of, build_rows, build_grid}
+use Rattle.grid.specs.Told.{BuiltFacts, BuiltIsBelow}
 use Rattle.grid.proofs.Cells.{id_placed}
 use Rattle.grid.proofs.Triangles.{triangle_of_member, at_vertex}
 use Rattle.grid.proofs.Grid.{built_rows, cut_build}
-
--- a grid that was built for n vertices
-pub record BuiltFacts (n : ℕ) (grid : Grid) : Type 0 where
-  pub cell_ids_below : (i : ℕ) → i < length grid.cell_ids → get_or grid.cell_ids i 0 < n
-  pub triples_below : (i : ℕ) → i < length grid.triples → get_or grid.triples i 0 < n
 
 grid_ids_below : (m : Mesh) (settings : Settings) → AdjacencyFacts m → BuiltFacts (count m) (grid_of m settings)
 unfolding grid_of
@@ -37,5 +33,5 @@ unfolding build_rows
 built_adjacency m settings lent g held h = (mesh_facts m (then_passed (mesh_rows m) _ (built_rows m settings lent g held h)).0).adjacency
 
 -- every accepted build: what it wrote is its slices, cut to the grid's lengths
-pub built_below : (m : Mesh) (settings : Settings) (lent : GridSlices) (g held : ℕ) → (build_grid m settings lent).answered ≡ Ok (built g held) → BuiltFacts (count m) (cut settings (count m) g (build_grid m settings lent).slices)
+pub built_below : BuiltIsBelow
 built_below m settings lent g held h = rw (cut_build m settings lent g held h) (grid_ids_below m settings (built_adjacency m settings lent g held h))

@@ -17,6 +17,7 @@ use Rattle.binary64.specs.Constants.{positive_zero}
 use Rattle.grid.specs.CubeFace.{face_projection}
 use Rattle.grid.specs.Cells.{across_cells}
 use Rattle.grid.specs.Held.{held_one, held_on, held_at, held_conversions}
+use Rattle.grid.specs.Bounds.{HeldAreBounded}
 use Rattle.grid.proofs.CubeFace.{three_faces}
 
 -- ---- one vertex on one face
@@ -92,7 +93,7 @@ faces_most g v (suc face) = omega (arith, faces_most g v face, held_few g v face
 pub so_far_most : (positions : List Float) (g v face : ℕ) → held_so_far positions g v face ≤ v * 6 + face * 2
 so_far_most positions g v face = omega (arith, vertices_most positions g v, faces_most g (position_of positions v) face)
 
-pub held_most : (positions : List Float) (g : ℕ) → held_conversions positions g ≤ vertex_count positions * 6
+pub held_most : HeldAreBounded
 unfolding held_conversions
 held_most positions g = vertices_most positions g (vertex_count positions)
 

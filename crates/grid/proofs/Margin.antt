@@ -1,15 +1,14 @@
 -- What a margin makes of a grid. `margin_grows`: with a greater one a cell keeps its ids, and may get more. `cell_ids_room`: a vertex is in at most 3·(2·margin + 1)² cells, so that so many cell ids a vertex are room enough. Assumes nothing.
-use Rattle.std.proofs.Common.{◌≡◌, ℕ, zero, suc, ◌+◌, ◌-◌, ◌*◌, ◌/◌, ◌%◌, ◌≤◌, true, false, ◌&&◌, leb, List, length, ℤ, pos, negsuc, refl, ap, ◌∙◌, mul-le-mul, zero-mul, arith, le-leb, leb-true}
-use mathlib.Core.List.{Memᴰ}
+use Rattle.std.proofs.Common.{◌≡◌, ℕ, zero, suc, ◌+◌, ◌-◌, ◌*◌, ◌/◌, ◌%◌, ◌≤◌, true, false, ◌&&◌, leb, List, ℤ, pos, negsuc, refl, ap, ◌∙◌, mul-le-mul, zero-mul, arith, le-leb, leb-true}
 use lib.Ieee.{Float, lt}
 use Rattle.std.proofs.lemmas.Bool.{and_parts, and_from}
 use Rattle.sequences.specs.Range.{sum_below}
 use Rattle.sequences.specs.Starts.{start_of}
 use Rattle.binary64.specs.Convert.{to_i64}
 use Rattle.vector.specs.declared.Vector3.{Vector3}
-use Rattle.mesh.specs.Mesh.{Mesh, count, vertex_count, position_of}
+use Rattle.mesh.specs.Mesh.{count, vertex_count, position_of}
 use Rattle.mesh.specs.Rows.{greatest_count}
-use Rattle.grid.specs.declared.settings.Settings.{Settings}
+use Rattle.sequences.proofs.Ascending.{is_member_true, member_is_member}
 use Rattle.grid.specs.declared.placement.Placement.{Placement}
 use Rattle.binary64.specs.Constants.{positive_zero}
 use Rattle.grid.specs.CubeFace.{face_projection}
@@ -17,7 +16,8 @@ use Rattle.grid.specs.Settings.{settings_with, greatest_margin}
 use Rattle.grid.specs.Cells.{side_of, cell_count, across_cells, near, breadth, cells_of_vertex, placed_in}
 use Rattle.grid.specs.Placing.{Placed}
 use Rattle.grid.specs.Passes.{ids_during, ids_of_all}
-use Rattle.grid.specs.Grid.{ids_in, grid_of}
+use Rattle.grid.specs.Grid.{ids_in}
+use Rattle.grid.specs.Bounds.{CellIdsAreBounded, WiderMarginKeepsIds}
 use Rattle.grid.proofs.CubeFace.{three_faces}
 use Rattle.grid.proofs.Placing.{some_placement}
 use Rattle.grid.proofs.Passes.{total_none, total_face, area_few, total_vertex, total_all}
@@ -45,10 +45,10 @@ placed_grows margin wider g cell v more h =
     and_from (lt positive_zero p.d) (near wider u row && near wider w column) front.0
     (and_from (near wider u row) (near wider w column) (near_grows margin wider row u more both.0) (near_grows margin wider column w more both.1))
 
-pub margin_grows : (m : Mesh) (factor : Float) (margin wider cell v : ℕ) → margin ≤ wider → Memᴰ v (ids_in m (settings_with factor margin) cell) → Memᴰ v (ids_in m (settings_with factor wider) cell)
+pub margin_grows : WiderMarginKeepsIds
 margin_grows m factor margin wider cell v more h =
-    let placed = id_placed m (settings_with factor margin) cell v h in
-    placed_id m (settings_with factor wider) cell v placed.0 (placed_grows margin wider _ cell (position_of m.positions v) more placed.1)
+    let placed = id_placed m (settings_with factor margin) cell v (is_member_true v (ids_in m (settings_with factor margin) cell) h) in
+    member_is_member v (ids_in m (settings_with factor wider) cell) (placed_id m (settings_with factor wider) cell v placed.0 (placed_grows margin wider _ cell (position_of m.positions v) more placed.1))
 
 -- ---- three faces
 module _ (positions : List Float) (margin g v : ℕ) where
@@ -111,5 +111,5 @@ ids_countable positions margin g few small =
     let cells : cells_of_vertex margin ≤ 147 = omega (arith, mul-le-mul broad broad) in
     omega (arith, ids_most positions margin g, mul-le-mul few cells)
 
-pub cell_ids_room : (m : Mesh) (settings : Settings) → length (grid_of m settings).cell_ids ≤ count m * cells_of_vertex settings.margin
+pub cell_ids_room : CellIdsAreBounded
 cell_ids_room m settings = omega (arith, cell_ids_total m settings, ids_most m.positions settings.margin (side_of settings.factor (count m)))

@@ -1,7 +1,6 @@
 -- Laws of rows 19 and 20, wherever they stand in a chain, and of the usual factor. Assumes nothing.
-use Rattle.std.proofs.Common.{◌≡◌, ◌≤◌, true, not, T, sym, refl, ap, ◌∙◌, leb-true}
-use mathlib.Core.Bool.{false≢true}
-use lib.Ieee.{Float, nan, inf, fin, binary64, of_bits, to_bits, fits, is_nan, lt, le, eq}
+use Rattle.std.proofs.Common.{◌≡◌, ◌≤◌, true, T, sym, refl, ap, ◌∙◌, leb-true}
+use lib.Ieee.{Float, binary64, of_bits, to_bits, fits, le}
 use lib.Ieee.Bits.{of_bits-to_bits}
 use Rattle.std.proofs.lemmas.Bool.{and_parts}
 use Rattle.refusal.specs.declared.Refusal.{Refusal}
@@ -31,14 +30,6 @@ module _ (settings : Settings) where
   pub margin_small : margin_fits settings.margin ≡ true → settings.margin ≤ greatest_margin
   unfolding margin_fits
   margin_small h = leb-true settings.margin greatest_margin h
-
--- ---- the factor's bits
--- what is at most 4 is no NaN, so that its bits can be read
-pub number_at_most : (x : Float) → le x greatest_factor ≡ true → T (not (is_nan x))
-unfolding le lt eq is_nan
-number_at_most nan h = absurd (false≢true h)
-number_at_most (inf s) h = tt
-number_at_most (fin s m e) h = tt
 
 pub factor_at_most : (x : Float) → factor_fits x ≡ true → le x greatest_factor ≡ true
 unfolding factor_fits

@@ -20,6 +20,7 @@ use Rattle.binary64.specs.Constants.{positive_zero}
 use Rattle.binary64.specs.Convert.{whole}
 use Rattle.grid.specs.Settings.{usual_factor, least_factor, greatest_factor, factor_fits}
 use Rattle.grid.specs.Cells.{side_across, side_of}
+use Rattle.grid.specs.Bounds.{SideIsBounded, UsualSideIsBounded}
 
 -- ---- the quotient by 6
 abbrev lowest : Float
@@ -219,8 +220,8 @@ module _ {factor : Float} {greatest : ℕ} (reach : FactorReach factor greatest)
       let most = to_unsigned_monotone 64 side_float reach.top side_float_lem.1 in
       (omega arith, omega arith)
 
-pub side_bound : (factor : Float) (n : ℕ) → factor_fits factor ≡ true → 1 ≤ n → n ≤ greatest_count → (2 ≤ side_of factor n) × (side_of factor n ≤ 420)
+pub side_bound : SideIsBounded
 side_bound factor n h some few = side_within (allowed_reach factor h) n some few (omega arith)
 
-pub usual_side_bound : (n : ℕ) → 1 ≤ n → n ≤ greatest_count → (2 ≤ side_of usual_factor n) × (side_of usual_factor n ≤ 126)
+pub usual_side_bound : UsualSideIsBounded
 usual_side_bound n some few = side_within usual_reach n some few (omega arith)

@@ -20,6 +20,7 @@ use Rattle.root.proofs.Monotone.{square_root_monotone}
 use Rattle.mesh.specs.Rows.{greatest_count}
 use Rattle.grid.specs.Settings.{usual_factor}
 use Rattle.grid.specs.Cells.{side_of}
+use Rattle.grid.specs.Bounds.{UsualSideIsLeast}
 use Rattle.grid.proofs.SideBound.{quotient, quotient_grows, quotient_positive, quotient_above, quotient_below, root_at_most, root_at_least, root_positive, across_positive, usual_reach, usual_side_bound}
 
 -- ---- the ceiling keeps the order
@@ -101,7 +102,7 @@ module _ (n g : ℕ) (some : 1 ≤ n) (few : n ≤ greatest_count) (lower : 2 �
       omega arith
 
 -- The side is the least g, 2 at least, with 6 * n ≤ 25 * g².
-pub side_least : (n g : ℕ) → 1 ≤ n → n ≤ greatest_count → 2 ≤ g → g ≤ 126 → (leb (6 * n) (25 * (g * g)) && (eqb g 2 || ltb (25 * ((g - 1) * (g - 1))) (6 * n))) ≡ eqb g (side_of usual_factor n)
+pub side_least : UsualSideIsLeast
 side_least n g some few lower upper = go (tested (6 * n) (25 * (g * g))) (tested g 2) (tested (6 * n) (25 * ((g - 1) * (g - 1))))
   where
     bounds : (2 ≤ side_of usual_factor n) × (side_of usual_factor n ≤ 126)

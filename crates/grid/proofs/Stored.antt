@@ -2,8 +2,7 @@
 use Rattle.std.proofs.Common.{◌≡◌, suc, ◌+◌, ◌*◌, ◌%◌, ◌≤◌, true, ◌&&◌, eqb, leb, List, length, sym, ap, ◌∙◌, add-one, arith, eqb-true, leb-true}
 use lib.Ieee.{Float}
 use Rattle.std.proofs.lemmas.Bool.{and_parts}
-use Rattle.refusal.specs.declared.Refusal.{Refusal}
-use Rattle.std.specs.Prelude.{Ok, Err}
+use Rattle.std.specs.Prelude.{Ok}
 use Rattle.refusal.specs.declared.Refusal.TheVariants.{Count, Factor, Margin, Starts}
 use Rattle.refusal.specs.Refusal.{Verdict, row, then}
 use Rattle.refusal.proofs.Rows.{row_passed, then_passed, row_then}
@@ -12,8 +11,9 @@ use Rattle.mesh.specs.Rows.{greatest_count, positions_fit}
 use Rattle.grid.specs.Settings.{factor_fits, margin_fits, settings_rows}
 use Rattle.grid.specs.Cells.{side_of, cell_count}
 use Rattle.grid.specs.Grid.{Grid}
-use Rattle.grid.specs.Passes.{greatest_side, GridExtent}
+use Rattle.grid.specs.Passes.{GridExtent}
 use Rattle.grid.specs.Stored.{side_fits, both_starts_counted, stored_rows}
+use Rattle.grid.specs.Told.{PassedIsStored}
 use Rattle.grid.proofs.SettingsRows.{settings_then, margin_small}
 use Rattle.grid.proofs.SideBound.{side_bound}
 
@@ -56,24 +56,11 @@ module _ (grid : Grid) (positions : List Float) where
   pub stored_passed : (next : Verdict) → stored_rows grid positions next ≡ Ok tt → (stored_rows grid positions (Ok tt) ≡ Ok tt) × (next ≡ Ok tt)
   stored_passed next h = then_passed (stored_rows grid positions (Ok tt)) next (sym (stored_then (Ok tt) next) ∙ h)
 
-  -- what they refuse is refused whatever comes behind them, and where they let pass the next rows decide
-  pub stored_refused : (next : Verdict) (reason : Refusal) → stored_rows grid positions (Ok tt) ≡ Err reason → stored_rows grid positions next ≡ Err reason
-  stored_refused next reason h = stored_then (Ok tt) next ∙ ap (λ (v : Verdict). then v next) h
-
   pub stored_through : (next : Verdict) → stored_rows grid positions (Ok tt) ≡ Ok tt → stored_rows grid positions next ≡ next
   stored_through next h = stored_then (Ok tt) next ∙ ap (λ (v : Verdict). then v next) h
 
 -- ---- what the rows let pass
-pub record StoredFacts (grid : Grid) (positions : List Float) : Type 0 where
-  pub factor_fits_lem : factor_fits grid.settings.factor ≡ true
-  pub margin_fits_lem : margin_fits grid.settings.margin ≡ true
-  pub is_side : grid.side ≡ side_of grid.settings.factor (vertex_count positions)
-  pub side_low : 2 ≤ grid.side
-  pub side_high : grid.side ≤ greatest_side
-  pub cells_counted : length grid.cell_starts ≡ suc (cell_count grid.side)
-  pub vertices_counted : length grid.triangle_starts ≡ suc (vertex_count positions)
-
-pub stored_facts : (grid : Grid) (positions : List Float) → stored_rows grid positions (Ok tt) ≡ Ok tt → StoredFacts grid positions
+pub stored_facts : PassedIsStored
 unfolding side_fits both_starts_counted
 stored_facts grid positions h =
     let fits = row_passed (positions_fit positions) Count _ h in
@@ -86,8 +73,8 @@ stored_facts grid positions h =
     let same : grid.side ≡ side_of grid.settings.factor (vertex_count positions) = eqb-true _ _ side.0 in
     let bound = side_bound grid.settings.factor (vertex_count positions) factor.0 count.0 count.1 in
     record {
-      factor_fits_lem = factor.0;
-      margin_fits_lem = margin.0;
+      allowed_factor = factor.0;
+      allowed_margin = margin.0;
       is_side = same;
       side_low = omega arith;
       side_high = omega arith;

@@ -10,3 +10,5 @@ pub mod CellLists
 pub mod TrianglePass
 pub mod Builder
 pub mod Stored
+pub mod Bounds
+pub mod Told

@@ -19,7 +19,7 @@ pub struct Projected {
 pub fn cube_face_project(face: usize, v: Vector3) -> Projected
     ensures { result ≡ face_projection face v }
 {
-    // By the face's number, as document 01 has it: 0 to 5.
+    // By the face's number, 0 to 5.
     match face {
         0 => Projected {
             u: v.y,
@@ -51,24 +51,6 @@ pub fn cube_face_project(face: usize, v: Vector3) -> Projected
             w: v.y,
             d: -v.z,
         },
-    }
-}
-
-// For each face the places of its u and w among x, −x, y, −y, z and −z. That of d is the face's own number.
-const U_PLACES: [usize; 6] = [2, 3, 0, 1, 0, 1];
-
-const W_PLACES: [usize; 6] = [4, 4, 4, 4, 2, 2];
-
-// The same by the tables, for a query, whose faces come in any order: there a match is a jump that is guessed wrong, and so is one that picks the places. A loop over the faces takes the match, as document 01 has it.
-pub fn cube_face_project_by_table(face: usize, v: Vector3) -> Projected
-    ensures { result ≡ face_projection face v }
-{
-    let signed = [v.x, -v.x, v.y, -v.y, v.z, -v.z];
-    let place = face.min(5);
-    Projected {
-        u: signed[U_PLACES[place]],
-        w: signed[W_PLACES[place]],
-        d: signed[place],
     }
 }
 

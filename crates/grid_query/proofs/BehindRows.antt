@@ -35,7 +35,7 @@ module _ (grid : Grid) (positions : List Float) (direction : Vector3) where
     pub extent_passed : GridExtent grid.settings.margin grid.side
     extent_passed =
         let stored = (grid_facts grid positions direction passes).stored in
-        (omega arith, omega arith, margin_small grid.settings stored.margin_fits_lem)
+        (omega arith, omega arith, margin_small grid.settings stored.allowed_margin)
 
     pub nearest_in_its_cell : grid_nearest grid positions direction ≡ nearest_of_cell grid positions (normalized direction) (cell_of_query grid direction)
     unfolding grid_nearest nearest_of_cell

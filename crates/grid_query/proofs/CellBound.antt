@@ -1,13 +1,14 @@
 -- A direction's cell is one of the grid's. Assumes nothing.
-use Rattle.std.proofs.Common.{◌≡◌, ℕ, ◌+◌, ◌*◌, ◌^◌, ◌<◌, ◌≤◌, Bool, true, false, cond, ◌&&◌, mul-le-mul_right, arith, lit≤}
+use Rattle.std.proofs.Common.{◌≡◌, ℕ, ◌+◌, ◌*◌, ◌<◌, ◌≤◌, Bool, true, false, cond, ◌&&◌, mul-le-mul_right, arith, lit≤}
 use lib.Ieee.{Float, lt, le}
 use Rattle.binary64.specs.Absolute.{abs}
 use Rattle.vector.specs.declared.Vector3.{Vector3}
 use Rattle.grid.specs.Passes.{greatest_side}
 use Rattle.binary64.specs.Constants.{positive_zero}
 use Rattle.grid.specs.CubeFace.{face_projection, dominant_face}
-use Rattle.grid.specs.Cells.{cell_count, across_cells}
+use Rattle.grid.specs.Cells.{across_cells}
 use Rattle.grid_query.specs.Cell.{clamped_cell, cell_of}
+use Rattle.grid_query.specs.Told.{DirectionHasCell}
 use Rattle.grid_query.proofs.Clamp.{clamped_below}
 
 face_of_six : (x y : Bool) (positive-x positive-y positive-z : Bool)
@@ -32,7 +33,7 @@ cell_fits g direction x y face ci cj p h f i j =
     let k : face ≤ 5 = rw f (face_at_most direction) in
     (omega (arith, k), rw i (clamped_below g x p (omega arith)), rw j (clamped_below g y p (omega arith)))
 
-pub cell_below : (g : ℕ) (direction : Vector3) → 0 < g → g ≤ 2 ^ 53 → cell_of g direction < cell_count g
+pub cell_below : DirectionHasCell
 unfolding cell_of
 cell_below g direction p h =
     let face = dominant_face direction in

@@ -12,7 +12,8 @@ use Rattle.vector.specs.Direction.{admissible, direction_row, direction_of}
 use Rattle.grid.specs.Cells.{cell_count}
 use Rattle.grid.specs.Grid.{Grid}
 use Rattle.grid.specs.Stored.{stored_rows}
-use Rattle.grid.proofs.Stored.{StoredFacts, stored_facts, stored_then, stored_passed, stored_refused, stored_through}
+use Rattle.grid.specs.Told.{StoredFacts}
+use Rattle.grid.proofs.Stored.{stored_facts, stored_then, stored_passed, stored_through}
 use Rattle.grid_query.specs.Cell.{cell_of_query, grid_rows, candidate_rows, cell_rows}
 use Rattle.grid_query.proofs.CellBound.{cell_below}
 
@@ -42,14 +43,7 @@ module _ (grid : Grid) (positions : List Float) (direction : Vector3) where
   grid_rows_then v next =
       ap (stored_rows grid positions) (row_then (admissible direction) Direction v next) ∙ stored_then grid positions (direction_row direction v) next
 
-  -- the stored grid passes, and so does the direction
-  pub grid_rows_passed : stored_rows grid positions (Ok tt) ≡ Ok tt → admissible direction ≡ true → grid_rows grid positions direction (Ok tt) ≡ Ok tt
-  grid_rows_passed h admitted = stored_through grid positions (direction_row direction (Ok tt)) h ∙ ap (λ (b : Bool). row b Direction (Ok tt)) admitted
-
-  -- rows 2, 19, 20, 2 and 3 refuse, or row 9 behind them
-  pub grid_rows_refused : (reason : Refusal) → stored_rows grid positions (Ok tt) ≡ Err reason → grid_rows grid positions direction (Ok tt) ≡ Err reason
-  grid_rows_refused reason h = stored_refused grid positions (direction_row direction (Ok tt)) reason h
-
+  -- row 9 refuses behind the others
   pub direction_refused : stored_rows grid positions (Ok tt) ≡ Ok tt → (reason : Refusal) → direction_of direction ≡ Err reason → grid_rows grid positions direction (Ok tt) ≡ Err reason
   unfolding direction_of
   direction_refused h reason r = stored_through grid positions (direction_row direction (Ok tt)) h ∙ tells (admissible direction) r

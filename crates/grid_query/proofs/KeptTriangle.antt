@@ -17,7 +17,7 @@ use Rattle.grid_query.specs.declared.LocatedTriangle.{LocatedTriangle}
 use Rattle.grid_query.specs.Cell.{cell_of_query, candidates, triples_at, cell_rows}
 use Rattle.grid_query.specs.Nearest.{nearest_of}
 use Rattle.grid_query.specs.Locate.{weighed_by, weighed, least_kept, kept_by, kept_of, triangle_rows, located_at, grid_locate}
-use Rattle.grid_query.specs.KeptTriangle.{SameTriangle, OpenAtZero, KeptWhicheverZero, locate_by, LocatedWhicheverZero, OpenMinimum, least_by, earlier_of_equals}
+use Rattle.grid_query.specs.KeptTriangle.{SameTriangle, OpenAtZero, KeptWhicheverZero, locate_by, LocatedWhicheverZero, earlier_of_equals, AnyMinimumIsOpen, EarlierIsOpen}
 
 -- ---- along the list, the leasts too differ in the sign of a zero at most
 abbrev Alike : Option LocatedTriangle → Option LocatedTriangle → Type 0
@@ -63,10 +63,10 @@ located_whichever_zero rule unsettled grid positions direction =
     (answers_relate SameTriangle (triangle_rows grid positions v) Err _ Err _ (λ reason. refl) (kept_whichever_zero rule unsettled positions d (triples_at grid v)))
 
 -- ---- rules that are open at zero
-pub any_minimum_open : (first second : ℕ → Float → Float → Float) → OpenMinimum first → OpenMinimum second → OpenAtZero (least_by first second)
+pub any_minimum_open : AnyMinimumIsOpen
 unfolding least_weight
 any_minimum_open first second f s i t = minima_same (first i) (second i) (f i) (s i) t.u t.v t.w
 
-pub earlier_open : OpenAtZero (least_by (λ i. earlier_of_equals) (λ i. earlier_of_equals))
+pub earlier_open : EarlierIsOpen
 unfolding earlier_of_equals
 earlier_open = any_minimum_open (λ i. earlier_of_equals) (λ i. earlier_of_equals) (λ i. earlier_same) (λ i. earlier_same)

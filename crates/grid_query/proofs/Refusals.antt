@@ -1,5 +1,5 @@
 -- Why a query is refused. `nearest_index`, `locate_index`: 18 tells the start that was met below the one before it, every other number nothing. `query_never_17`: no query returns 17. Assumes nothing.
-use Rattle.std.proofs.Common.{◌≡◌, ℕ, suc, ◌<◌, false, ltb, ◌≢◌, ◌⊎◌, List, length, get_or, refl, subst, inl, inr, arith, leb-false}
+use Rattle.std.proofs.Common.{◌≡◌, ℕ, suc, false, ltb, ◌≢◌, List, length, get_or, refl, subst, inl, inr, arith, leb-false}
 use lib.Ieee.{Float}
 use Rattle.sequences.specs.Starts.{block_part}
 use Rattle.refusal.specs.declared.Refusal.{Refusal}
@@ -18,16 +18,9 @@ use Rattle.grid.specs.Stored.{side_fits, both_starts_counted}
 use Rattle.grid_query.specs.declared.Nearest.{Nearest}
 use Rattle.grid_query.specs.declared.LocatedTriangle.{LocatedTriangle}
 use Rattle.grid_query.specs.Cell.{cell_of_query, part_within, candidates, triples_at, cell_rows}
-use Rattle.grid_query.specs.Nearest.{nearest_of, nearest_in, grid_nearest}
+use Rattle.grid_query.specs.Nearest.{nearest_in, grid_nearest}
 use Rattle.grid_query.specs.Locate.{kept_of, triangle_rows, located_at, grid_locate}
-
--- the part i of a list falls: the start behind it is below its own
-abbrev pub PartFalls : List ℕ → ℕ → Type 0
-PartFalls starts i = get_or starts (suc i) 0 < get_or starts i 0
-
--- the vertex at which a location reads its triples
-abbrev pub nearest_of_query : Grid → List Float → Vector3 → ℕ
-nearest_of_query grid positions direction = nearest_of positions (normalized direction) (candidates grid (cell_of_query grid direction))
+use Rattle.grid_query.specs.Told.{PartFalls, nearest_of_query, CellIndex, LocationIndex, NearestIndexIsTold, LocationIndexIsTold, NeverSeventeen}
 
 -- ---- each reason is one of the rows': neither 17 nor, but where a part falls, 18
 module _ (P : Refusal → Type 0) (plain : (reason : Refusal) → number_of reason ≢ 17 → number_of reason ≢ 18 → index_of reason ≡ 0 → P reason) (grid : Grid) (positions : List Float) where
@@ -107,31 +100,21 @@ module _ (P : Refusal → Type 0) (plain : (reason : Refusal) → number_of reas
         (kept_reason (kept_of positions (normalized direction) None (triples_at grid vertex))))
 
 -- ---- the index: with 18 it is that of the start behind the part that was met falling, and with every other number it is 0
--- of a nearest query, in its cell
-abbrev pub CellIndex : Grid → ℕ → Refusal → Type 0
-CellIndex grid cell reason = ((number_of reason ≡ 18) × (index_of reason ≡ suc cell) × PartFalls grid.cell_starts cell) ⊎ ((number_of reason ≢ 18) × (index_of reason ≡ 0))
+pub nearest_index : NearestIndexIsTold
+nearest_index grid positions direction reason h =
+    let P = CellIndex grid (cell_of_query grid direction) in
+    subst (λ (a : Result Nearest Refusal). IfErr a P) h (nearest_reason P (λ own not-17 not-18 no-index. inr (not-18, no-index)) grid positions direction (λ falls. inl (refl, refl, falls)))
 
--- of a location, in the cell or at the nearest vertex
-abbrev pub LocationIndex : Grid → ℕ → ℕ → Refusal → Type 0
-LocationIndex grid cell v reason = CellIndex grid cell reason ⊎ ((number_of reason ≡ 18) × (index_of reason ≡ suc v) × PartFalls grid.triangle_starts v)
+pub locate_index : LocationIndexIsTold
+locate_index grid positions direction reason h =
+    let P = LocationIndex grid (cell_of_query grid direction) (nearest_of_query grid positions direction) in
+    subst (λ (a : Result LocatedTriangle Refusal). IfErr a P) h
+    (locate_reason P (λ own not-17 not-18 no-index. inl (inr (not-18, no-index))) grid positions direction (λ falls. inl (inl (refl, refl, falls))) (λ falls. inr (refl, refl, falls)))
 
-module _ (grid : Grid) (positions : List Float) (direction : Vector3) where
-  pub nearest_index : (reason : Refusal) → grid_nearest grid positions direction ≡ Err reason → CellIndex grid (cell_of_query grid direction) reason
-  nearest_index reason h =
-      let P = CellIndex grid (cell_of_query grid direction) in
-      subst (λ (a : Result Nearest Refusal). IfErr a P) h (nearest_reason P (λ own not-17 not-18 no-index. inr (not-18, no-index)) grid positions direction (λ falls. inl (refl, refl, falls)))
-
-  pub locate_index : (reason : Refusal) → grid_locate grid positions direction ≡ Err reason → LocationIndex grid (cell_of_query grid direction) (nearest_of_query grid positions direction) reason
-  locate_index reason h =
-      let P = LocationIndex grid (cell_of_query grid direction) (nearest_of_query grid positions direction) in
-      subst (λ (a : Result LocatedTriangle Refusal). IfErr a P) h
-      (locate_reason P (λ own not-17 not-18 no-index. inl (inr (not-18, no-index))) grid positions direction (λ falls. inl (inl (refl, refl, falls))) (λ falls. inr (refl, refl, falls)))
-
-  -- ---- "A query never returns 17"
-  pub query_never_17 : (reason : Refusal)
-      → (grid_nearest grid positions direction ≡ Err reason → number_of reason ≢ 17) × (grid_locate grid positions direction ≡ Err reason → number_of reason ≢ 17)
-  query_never_17 reason =
-      let P : Refusal → Type 0 = λ (r : Refusal). number_of r ≢ 17 in (
-        λ h. subst (λ (a : Result Nearest Refusal). IfErr a P) h (nearest_reason P (λ own not-17 not-18 no-index. not-17) grid positions direction (λ falls z. omega arith)),
-        λ h. subst (λ (a : Result LocatedTriangle Refusal). IfErr a P) h (locate_reason P (λ own not-17 not-18 no-index. not-17) grid positions direction (λ falls z. omega arith) (λ falls z. omega arith)),
-      )
+-- ---- the number is never 17
+pub query_never_17 : NeverSeventeen
+query_never_17 grid positions direction reason =
+    let P : Refusal → Type 0 = λ (r : Refusal). number_of r ≢ 17 in (
+      λ h. subst (λ (a : Result Nearest Refusal). IfErr a P) h (nearest_reason P (λ own not-17 not-18 no-index. not-17) grid positions direction (λ falls z. omega arith)),
+      λ h. subst (λ (a : Result LocatedTriangle Refusal). IfErr a P) h (locate_reason P (λ own not-17 not-18 no-index. not-17) grid positions direction (λ falls z. omega arith) (λ falls z. omega arith)),
+    )

@@ -10,27 +10,18 @@ use Rattle.refusal.specs.declared.Refusal.TheVariants.{Starts, StartsFall, Id, N
 use Rattle.refusal.proofs.Rows.{row_passed, answer_accepted}
 use Rattle.vector.specs.declared.Vector3.{Vector3}
 use Rattle.vector.specs.Vector.{normalized}
-use Rattle.barycentric.specs.LeastWeight.{least_weight}
 use Rattle.mesh.specs.Mesh.{vertex_count}
 use Rattle.mesh.specs.Rows.{not_falling, ids_below}
-use Rattle.grid.specs.Grid.{Grid}
 use Rattle.grid_query.specs.declared.LocatedTriangle.{LocatedTriangle}
 use Rattle.grid_query.specs.Cell.{cell_of_query, part_within, candidates, in_triples, triples_at, cell_rows}
 use Rattle.grid_query.specs.Nearest.{nearest_of}
 use Rattle.grid_query.specs.Locate.{weighed_by, weighed, least_kept, kept_by, kept_of, triangle_rows, located_at, grid_locate}
+use Rattle.grid_query.specs.Told.{LocatedFacts, TriangleIsLocated}
 use Rattle.mesh.proofs.IdsBelow.{ids_below_at}
 
 -- what exceeds anything is above minus infinity
 exceeds_minus_infinity : (x y : Float) → lt x y ≡ true → lt (inf true) y ≡ true
 exceeds_minus_infinity x y h = is_true _ (lt_of_le_of_lt (inf true) x y (T_from_true _ (infinity_least x (lt_left_number x y h))) (T_from_true _ h))
-
--- a triangle that was located in a mesh of n vertices
-pub record LocatedFacts (n : ℕ) (located : LocatedTriangle) : Type 0 where
-  pub first_below : located.triple.first < n
-  pub second_below : located.triple.second < n
-  pub third_below : located.triple.third < n
-  pub is_least : located.least ≡ least_weight located.weights
-  pub above : lt (inf true) located.least ≡ true
 
 -- of the triangle kept, if any
 abbrev Sound : ℕ → Option LocatedTriangle → Type 0
@@ -64,8 +55,7 @@ kept_is None located h = cc
 kept_is (Some triangle) located h = cc
 
 -- every triangle that a location answers
-pub triangle_located : (grid : Grid) (positions : List Float) (direction : Vector3) (located : LocatedTriangle)
-    → grid_locate grid positions direction ≡ Ok located → LocatedFacts (vertex_count positions) located
+pub triangle_located : TriangleIsLocated
 unfolding grid_locate located_at triangle_rows triples_at
 triangle_located grid positions direction located h =
     let v = nearest_of positions (normalized direction) (candidates grid (cell_of_query grid direction)) in

@@ -14,19 +14,11 @@ use Rattle.mesh.specs.Rows.{not_falling, ids_below}
 use Rattle.grid.specs.Grid.{Grid}
 use Rattle.grid_query.specs.declared.Nearest.{Nearest}
 use Rattle.grid_query.specs.Cell.{part_within, cell_of_query, candidates, grid_rows, candidate_rows, cell_rows}
-use Rattle.grid_query.specs.Nearest.{squared_distance, nearest_of, nearest_in, nearest_of_cell, grid_nearest}
+use Rattle.grid_query.specs.Nearest.{squared_distance, nearest_in, nearest_of_cell, grid_nearest}
+use Rattle.grid_query.specs.Told.{FoundFacts, VertexIsFound}
 use Rattle.mesh.proofs.IdsBelow.{ids_below_member}
 use Rattle.grid_query.proofs.GridRows.{cell_rows_then}
 use Rattle.grid_query.proofs.NearestCandidate.{nearest_member}
-
--- a vertex that was found among the candidates of a cell
-pub record FoundFacts (grid : Grid) (positions : List Float) (direction : Vector3) (cell : ℕ) (found : Nearest) : Type 0 where
-  pub passed : candidate_rows grid positions cell ≡ Ok tt
-  pub is_nearest : found.id ≡ nearest_of positions direction (candidates grid cell)
-  pub at_distance : found.distance ≡ squared_distance positions direction found.id
-  pub counted : found.candidates ≡ length (candidates grid cell)
-  pub candidate : Memᴰ found.id (candidates grid cell)
-  pub below : found.id < vertex_count positions
 
 module _ (grid : Grid) (positions : List Float) (direction : Vector3) (cell : ℕ) where
   candidate_facts : candidate_rows grid positions cell ≡ Ok tt → (0 < length (candidates grid cell)) × (ids_below (vertex_count positions) (candidates grid cell) ≡ true)
@@ -60,8 +52,7 @@ module _ (grid : Grid) (positions : List Float) (direction : Vector3) (cell : �
       answer_refused (λ (a : Result Nearest Refusal). a ≡ Err reason) (candidate_rows grid positions cell) Err _ reason (λ q. cc) (λ other q. cc) h
 
 -- every vertex that a nearest query answers
-pub vertex_found : (grid : Grid) (positions : List Float) (direction : Vector3) (found : Nearest) → grid_nearest grid positions direction ≡ Ok found
-    → FoundFacts grid positions (normalized direction) (cell_of_query grid direction) found
+pub vertex_found : VertexIsFound
 unfolding grid_nearest nearest_of_cell
 vertex_found grid positions direction found h =
     let cell = cell_of_query grid direction in

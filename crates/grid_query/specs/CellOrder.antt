@@ -1,9 +1,12 @@
 -- Cells that never run backwards (W-213). Definitions only.
-use Rattle.std.specs.Prelude.{ℕ, ◌^◌, ◌<◌, ◌≤◌, T, Float}
+use Rattle.std.specs.Prelude.{ℕ, ◌^◌, ◌<◌, ◌≤◌, T, IsTrue, Float}
 use Rattle.std.specs.Float.Ieee.{le}
 use Rattle.std.specs.Float.Ieee.Positive.{positive}
 use Rattle.std.specs.Float.Ieee.Scale.{finite}
+use Rattle.mesh.specs.Rows.{greatest_count}
 use Rattle.grid.specs.CubeFace.{projected}
+use Rattle.grid.specs.Settings.{factor_fits}
+use Rattle.grid.specs.Cells.{side_of}
 use Rattle.grid_query.specs.Cell.{ci_of, cj_of}
 
 -- "in a query's steps after normalising, on one cube face, for any finite u, w and d with d above 0, of unit length or not, a larger u with the same w and d never gives a lower ci". `positive` is finite and above 0; u' may equal u, as −0 and +0 do (IEEE 754-2019, 5.11).
@@ -22,3 +25,7 @@ CiNeverFalls = (g : ℕ) → 0 < g → g ≤ 2 ^ 53 → CiFollows g
 
 abbrev pub CjNeverFalls : Type 0
 CjNeverFalls = (g : ℕ) → 0 < g → g ≤ 2 ^ 53 → CjFollows g
+
+-- Of every grid that can be built, by its factor and its count of vertices.
+abbrev pub GridCellsFollow : Type 0
+GridCellsFollow = (factor : Float) (n : ℕ) → IsTrue (factor_fits factor) → 1 ≤ n → n ≤ greatest_count → CiFollows (side_of factor n) × CjFollows (side_of factor n)

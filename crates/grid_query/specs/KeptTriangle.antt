@@ -56,3 +56,11 @@ least_by first second i t = second i (first i t.u t.v) t.w
 unfoldable pub earlier_of_equals : Float → Float → Float
 unfolding is_nan lt
 earlier_of_equals x y = cond (is_nan x) y (cond (lt y x) y x)
+
+-- Every least of two such minima is a rule open at zero.
+abbrev pub AnyMinimumIsOpen : Type 0
+AnyMinimumIsOpen = (first second : ℕ → Float → Float → Float) → OpenMinimum first → OpenMinimum second → OpenAtZero (least_by first second)
+
+-- So is the least by which the earlier of two equal weights stays.
+abbrev pub EarlierIsOpen : Type 0
+EarlierIsOpen = OpenAtZero (least_by (λ i. earlier_of_equals) (λ i. earlier_of_equals))

@@ -3,3 +3,4 @@ pub mod Nearest
 pub mod Locate
 pub mod KeptTriangle
 pub mod CellOrder
+pub mod Told

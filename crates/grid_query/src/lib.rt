@@ -14,15 +14,17 @@ ghost use Rattle.grid_query.specs.Cell.{clamped_cell, cell_of, in_triples, part_
 ghost use Rattle.grid_query.specs.Nearest.{squared_distance, nearest_in, nearest_of_cell, grid_nearest};
 ghost use Rattle.grid_query.specs.Locate.{located, least_kept, kept_of, located_at, grid_locate};
 
+pub mod laws;
+
 use barycentric::{least_weight, projected_barycentric};
 use binary64::{NO_FRACTION, rank, whole_digits};
-use grid::cube_face::{cube_face_project_by_table, dominant_face};
+use grid::cube_face::{cube_face_project, dominant_face};
 use grid::extent::Extent;
 use grid::settings::Settings;
 use grid::stored_grid::StoredGrid;
 use mesh::{ids_below, position, vertex_count};
 use refusal::Refusal;
-use vector::{Triple, Vector3, Weights};
+use vector::{Direction, Triple, Vector3, Weights};
 
 // The nearest vertex, its squared distance and how many candidates were compared.
 #[derive(Clone, Copy, Debug)]
@@ -63,7 +65,7 @@ fn cell_index(extent: Extent, direction: Vector3) -> usize
     ensures { result ≡ cell_of extent.side direction }
 {
     let face = dominant_face(direction);
-    let shown = cube_face_project_by_table(face, direction);
+    let shown = cube_face_project(face, direction);
     let ci = clamped_cell(extent, extent.across_cells(shown.u, shown.d));
     let cj = clamped_cell(extent, extent.across_cells(shown.w, shown.d));
     extent.cell_number(face, ci, cj)
@@ -167,7 +169,7 @@ impl Query<'_> {
         ensures { result ≡ grid_rows grid.now self.now.positions.now self.now.direction (Ok tt) }
     {
         grid.check(self.positions)?;
-        self.direction.admitted()?;
+        Direction::new(self.direction)?;
         Ok(())
     }
 

@@ -5,7 +5,7 @@ use Rattle.std.specs.Float.Ieee.{of_bits}
 use Rattle.vector.specs.declared.Vector3.{Vector3}
 use Rattle.vector.specs.Vector.{vector}
 
--- Document 01, "Vectors": "The twelve icosahedron points are constants: the bits that `icosahedron_points` prints once in the oracle". x, y and z of each point.
+-- The twelve points are constants: the bits that `icosahedron_points` of the source printed once. x, y and z of each point.
 abbrev pub coordinate_bits : List ℕ
 coordinate_bits =
     0x0000000000000000 ∷ 0x0000000000000000 ∷ 0x3ff0000000000000 ∷

@@ -3,7 +3,7 @@ use Rattle.std.specs.Prelude.{ℕ, ◌+◌, ◌-◌, ◌*◌, ◌/◌, ◌≤◌
 use Rattle.refusal.specs.declared.Refusal.TheVariants as refusal
 use Rattle.refusal.specs.Refusal.{Verdict, row}
 
--- Row 1 of document 01's table refuses a frequency "below 1, above 80".
+-- Row 1 refuses a frequency below 1 or above 80.
 abbrev pub greatest_frequency : ℕ
 greatest_frequency = 80
 
@@ -18,7 +18,7 @@ IsFrequency n = (1 ≤ n) × (n ≤ greatest_frequency)
 abbrev pub frequency_row : ℕ → Verdict → Verdict
 frequency_row n next = row (frequency_fits n) refusal.Frequency next
 
--- Document 01, "Lattice of frequency n": "Slot of (a, b) in its face: a(n + 1) − a(a − 1)/2 + b". At a = 0 the product a(a − 1) is 0.
+-- The slot of (a, b) in its face: a(n + 1) − a(a − 1)/2 + b, as row a has n + 1 − a slots. At a = 0 the product a(a − 1) is 0.
 unfoldable pub slot_of : ℕ → ℕ → ℕ → ℕ
 slot_of n a b = a * (n + 1) - a * (a - 1) / 2 + b
 

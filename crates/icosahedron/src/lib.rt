@@ -41,9 +41,8 @@ pub struct Face {
 // The twelve points: the bits that `icosahedron_points` of the source printed once.
 const POINTS: [Vector3; 12] = [
     Vector3 {
-        x: 0.0,
-        y: 0.0,
         z: 1.0,
+        ..Vector3::ZERO
     },
     Vector3 {
         x: 0.8944271909999159,
@@ -96,9 +95,8 @@ const POINTS: [Vector3; 12] = [
         z: -0.4472135954999579,
     },
     Vector3 {
-        x: 0.0,
-        y: 0.0,
         z: -1.0,
+        ..Vector3::ZERO
     },
 ];
 

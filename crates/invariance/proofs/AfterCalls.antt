@@ -1,10 +1,10 @@
 -- A list of calls leaves the start renumbered by the accumulated permutation. Assumes nothing.
-use Prim.Native.Nat.{ℕ, suc, ◌*◌}
+use Prim.Native.Nat.{ℕ, suc, ◌*◌, ◌/◌}
 use native.Mathlib.Omega.{arith}
 use mathlib.Core.Path.{◌≡◌, refl, sym, ap, ap₂, subst, ◌∙◌}
 use mathlib.Core.Bool.{Bool, true, false, true≢false}
 use mathlib.Core.List.{List, [], ◌∷◌}
-use lib.ListN.{length}
+use lib.ListN.{length, drop}
 use lib.Ieee.{Float}
 use Rattle.sequences.specs.Permutation.{at, IsPermutation, inverse, identity}
 use Rattle.sequences.proofs.Permutation.{permutation_bijection, identity_at, identity_permutation, compose_at, compose_permutation}
@@ -16,7 +16,7 @@ use Rattle.mesh.proofs.Facts.{AdjacencyFacts}
 use Rattle.mesh.proofs.Renumbered.{Renumbered, renumbered_none, renumbered_then}
 use Rattle.renumber.specs.Renumber.{Call, entries_per_vertex_fit, longest_length, call_rows, renumber_rows, renumbered_data}
 use Rattle.renumber.proofs.RenumberedMesh.{same_entries_length, renumbered_adjacency, renumbered}
-use Rattle.renumber.proofs.RenumberedData.{renumbered_data_length, renumbered_data_identity, renumbered_data_compose}
+use Rattle.renumber.proofs.RenumberedData.{renumbered_data_length, renumbered_data_single_tail, renumbered_data_identity, renumbered_data_compose}
 use Rattle.renumber.proofs.Calls.{accepted_permutation, accepted_entries, call_rows_decide, accepted_mesh, accepted_values, refused_mesh, refused_values}
 use Rattle.invariance.specs.Calls.{State, state_of, after_call, after_calls, accumulate, accumulate_all, accumulated_permutation, AcceptedHave}
 
@@ -28,6 +28,7 @@ module _ (m : Mesh) (values : List Float) (facts : AdjacencyFacts m) where
     pub adjacency : AdjacencyFacts state.mesh
     pub entries_length : length state.mesh.entries ≡ length m.entries
     pub data_length : length state.values ≡ length values
+    pub single_tail : drop (length values / count m * count m) state.values ≡ drop (length values / count m * count m) values
 
   -- The data is the start's, renumbered by p with `each` entries a vertex. Where row 7 refuses `each`, no call was accepted and the data is as it was.
   pub record DataRenumberedBy (each : ℕ) (p : List ℕ) (state : State) : Type 0 where
@@ -70,18 +71,24 @@ module _ (m : Mesh) (values : List Float) (facts : AdjacencyFacts m) where
           adjacency = r.adjacency;
           entries_length = r.entries_length;
           data_length = ap length (refused_data reason e) ∙ r.data_length;
+          single_tail = ap (drop (length values / count m * count m)) (refused_data reason e) ∙ r.single_tail;
         })
     step (Ok tt) e =
         let k = accepted_permutation (count m) (longest_length m values) call e in
         let q = call.permutation in
         let k₁ : IsPermutation (count state.mesh) q = subst (λ (n : ℕ). IsPermutation n q) (sym same_count) k in
         let both = compose_permutation r.permutation k in
+        let fit = accepted_entries (count m) (longest_length m values) call e in
         rw (e, accepted_mesh state.mesh state.mark state.values call (same_rows ∙ e)) (record {
           permutation = both;
           mesh = renumbered_then facts r.mesh (renumbered state.mesh r.adjacency k₁) (permutation_bijection both) (λ v lt. compose_at q p v (omega (arith, r.permutation.size)));
           adjacency = renumbered_adjacency state.mesh r.adjacency k₁;
           entries_length = same_entries_length state.mesh r.adjacency k₁ ∙ r.entries_length;
-          data_length = ap length (accepted_data e) ∙ renumbered_data_length k call.entries_per_vertex (accepted_entries (count m) (longest_length m values) call e) state.values ∙ r.data_length;
+          data_length = ap length (accepted_data e) ∙ renumbered_data_length k call.entries_per_vertex fit state.values ∙ r.data_length;
+          single_tail = ap (drop (length values / count m * count m)) (accepted_data e)
+              ∙ subst (λ (places : ℕ). drop (places / count m * count m) (renumbered_data (count m) q call.entries_per_vertex state.values) ≡ drop (places / count m * count m) state.values) r.data_length
+              (renumbered_data_single_tail k call.entries_per_vertex fit state.values facts.some)
+              ∙ r.single_tail;
         })
 
     data_step : (each : ℕ) → DataRenumberedBy each p state → (call_rows (count m) (longest_length m values) call ≡ Ok tt → call.entries_per_vertex ≡ each)
@@ -119,7 +126,7 @@ module _ (m : Mesh) (values : List Float) (facts : AdjacencyFacts m) where
     at_start : RenumberedBy (identity (count m)) (state_of m mark values)
     at_start =
         let h = identity_permutation (count m) in
-        record { permutation = h; mesh = renumbered_none m facts (permutation_bijection h) (identity_at (count m)); adjacency = facts; entries_length = refl; data_length = refl }
+        record { permutation = h; mesh = renumbered_none m facts (permutation_bijection h) (identity_at (count m)); adjacency = facts; entries_length = refl; data_length = refl; single_tail = refl }
 
     pub after_calls_lem : (calls : List Call) → RenumberedBy (accumulated_permutation (state_of m mark values) calls) (after_calls (state_of m mark values) calls)
     unfolding accumulated_permutation

@@ -38,16 +38,16 @@ module _ (m m₁ : Mesh) (settings : Settings) {p b : ℕ → ℕ} (facts : Mesh
       let some₁ : 0 < length ids₁ = omega (arith, same.same_number) in
       let member = nearest_member m.positions d ids some in
       let below = candidate_below m settings cell (nearest_of m.positions d ids) member in
-      rw (nearest_answer_lem m.positions d ids, nearest_answer_lem m₁.positions d ids₁) (
-        nearest_same_distance m.positions m₁.positions d p ids ids₁ some same,
-        squared_distance_not_nan m.positions direction (nearest_of m.positions d ids) (passed_direction m settings direction rows) (facts.admissible_positions (nearest_of m.positions d ids) below),
-        sym same.same_number,
-        refl,
-        refl,
-        record { among = member; at_distance = refl; lowest = nearest_lowest m.positions d ids (candidates_ascending m settings cell) },
-        record { among = nearest_member m₁.positions d ids₁ some₁; at_distance = refl; lowest = nearest_lowest m₁.positions d ids₁ (candidates_ascending m₁ settings cell) },
-        nearest_alone m.positions m₁.positions d p ids ids₁ some same,
-      )
+      rw (nearest_answer_lem m.positions d ids, nearest_answer_lem m₁.positions d ids₁) (record {
+        same_distance = nearest_same_distance m.positions m₁.positions d p ids ids₁ some same;
+        no_nan = squared_distance_not_nan m.positions direction (nearest_of m.positions d ids) (passed_direction m settings direction rows) (facts.admissible_positions (nearest_of m.positions d ids) below);
+        same_candidates = sym same.same_number;
+        counted = refl;
+        counted_after = refl;
+        lowest = record { among = member; at_distance = refl; lowest = nearest_lowest m.positions d ids (candidates_ascending m settings cell) };
+        lowest_after = record { among = nearest_member m₁.positions d ids₁ some₁; at_distance = refl; lowest = nearest_lowest m₁.positions d ids₁ (candidates_ascending m₁ settings cell) };
+        followed = nearest_alone m.positions m₁.positions d p ids ids₁ some same;
+      })
 
   same_nearest : (direction : Vector3)
       → SameNearest p

@@ -1,32 +1,33 @@
--- Demand 3: what a list of renumberings keeps. Beside it, `renumbering_same_room` and `renumbering_same_held`. Assumes nothing.
+-- What a list of renumberings keeps: `renumbering_invariance_lem`, and of two builds of a mesh with mutual lists or with any, `held_alike`. Assumes nothing.
 use Prim.Native.Nat.{ℕ, zero, suc, ◌+◌, ◌*◌, ◌/◌, ◌<◌}
 use native.Mathlib.Omega.{arith}
-use mathlib.Core.Path.{◌≡◌, sym, ap, ◌∙◌}
+use mathlib.Core.Path.{◌≡◌, refl, sym, ap, ◌∙◌}
 use mathlib.Core.Logic.{◌⊎◌, inl, inr}
-use mathlib.Core.Bool.{Bool, true, false}
+use mathlib.Core.Bool.{true, false}
 use mathlib.Core.List.{List}
 use lib.ListN.{length, get_or, drop}
 use lib.Ieee.{Float, nan}
 use Rattle.std.proofs.lemmas.Bool.{cases_Bool}
 use Rattle.sequences.specs.Permutation.{at, IsPermutation}
-use Rattle.std.specs.Prelude.{Ok}
+use Rattle.std.specs.Prelude.{Ok, Err}
+use Rattle.refusal.specs.Refusal.{Verdict, answer}
 use Rattle.vector.specs.declared.Vector3.{Vector3}
 use Rattle.mesh.specs.Mesh.{Mesh, count, position_of}
-use Rattle.mesh.specs.Rows.{mesh_rows}
 use Rattle.mesh.specs.Adjacency.{Mutual, NoRepeat}
 use Rattle.mesh.proofs.Facts.{AdjacencyFacts, MeshFacts, mesh_facts, mesh_passed}
-use Rattle.mesh.proofs.Renumbered.{admissible_renumbered}
-use Rattle.renumber.specs.Renumber.{Call, entries_per_vertex_fit, longest_length}
+use Rattle.mesh.proofs.Renumbered.{Renumbered, admissible_renumbered}
+use Rattle.renumber.specs.Renumber.{entries_per_vertex_fit, longest_length}
 use Rattle.renumber.proofs.RenumberedData.{fit_single, fit_paired, renumbered_data_tail, renumbered_single, renumbered_pair}
 use Rattle.grid.specs.declared.settings.Settings.{Settings}
 use Rattle.grid.specs.Cells.{side_of}
 use Rattle.grid.specs.Held.{held_conversions}
-use Rattle.grid.specs.Grid.{GridSlices, built, build_rows, build_grid}
+use Rattle.grid.specs.Grid.{GridSlices, built, BuildOutcome, grid_of, grid_slices_fit, build_rows, filled_grid, build_grid}
 use Rattle.grid.proofs.Grid.{cut_build, built_held}
 use Rattle.grid.proofs.Held.{same_held}
 use Rattle.grid.proofs.Room.{same_build_rows}
-use Rattle.invariance.specs.Calls.{State, state_of, after_calls, accumulated_permutation, AcceptedHave}
-use Rattle.invariance.specs.Claim.{Invariant}
+use Rattle.invariance.specs.Calls.{State, state_of, after_calls, AcceptedHave}
+use Rattle.invariance.specs.Claim.{SameLengths, SameBuilds, Invariant}
+use Rattle.invariance.specs.Laws.{RenumberingInvariance, HeldAlike}
 use Rattle.invariance.proofs.AfterCalls.{RenumberedBy, DataRenumberedBy, after_calls_lem, data_after_calls}
 use Rattle.invariance.proofs.Grids.{same_grids}
 
@@ -52,6 +53,31 @@ values_tail m values facts each p state h d = go (cases_Bool (entries_per_vertex
     go (inl fit) = ap (drop places) (d.moved fit) ∙ renumbered_data_tail h each fit values
     go (inr unfit) = ap (drop places) (d.kept unfit)
 
+-- ---- the builder, of two meshes
+-- an answer by its rows
+builder_answer : (m : Mesh) (settings : Settings) (lent : GridSlices) → (build_grid m settings lent).answered
+    ≡ answer (build_rows m settings lent) Err (Ok (built (side_of settings.factor (count m)) (held_conversions m.positions (side_of settings.factor (count m)))))
+unfolding build_grid
+builder_answer m settings lent = go (build_rows m settings lent)
+  where
+    side : ℕ
+    side = side_of settings.factor (count m)
+
+    go : (v : Verdict) → (answer {A = BuildOutcome} v (λ reason. record { answered = Err reason; slices = lent }) (record { answered = Ok (built side (held_conversions m.positions side)); slices = filled_grid (grid_of m settings) lent })).answered
+        ≡ answer v Err (Ok (built side (held_conversions m.positions side)))
+    go (Ok _) = refl
+    go (Err reason) = refl
+
+-- what the lent slices hold is nothing to the rows
+rows_by_lengths : (m : Mesh) (settings : Settings) (lent lent₁ : GridSlices) → SameLengths lent lent₁ → build_rows m settings lent₁ ≡ build_rows m settings lent
+unfolding build_rows grid_slices_fit
+rows_by_lengths m settings lent lent₁ same = rw (same.cell_starts, same.cell_ids, same.triangle_starts, same.triples) refl
+
+same_builds : (m m₁ : Mesh) {p b : ℕ → ℕ} → MeshFacts m → MeshFacts m₁ → Mutual m → NoRepeat m → Renumbered m m₁ p b → SameBuilds m m₁
+same_builds m m₁ facts facts₁ mutual-lists no-repeat r settings lent lent₁ same =
+    let rows = rows_by_lengths m₁ settings lent lent₁ same ∙ same_build_rows m m₁ settings facts facts₁ mutual-lists no-repeat r lent in
+    builder_answer m₁ settings lent₁ ∙ rw (rows, r.same_count, same_held r (side_of settings.factor (count m))) (sym (builder_answer m settings lent))
+
 -- what holds of a state that is the start renumbered by p
 renumbered_invariant : (m : Mesh) (values : List Float) (facts : MeshFacts m) → Mutual m → (p : List ℕ) (state : State) → RenumberedBy m values facts.adjacency p state
     → (AllHave : ℕ → Type 0) → ((each : ℕ) → AllHave each → DataRenumberedBy m values facts.adjacency each p state) → Invariant m values state.mesh state.values (at p) AllHave
@@ -70,32 +96,23 @@ renumbered_invariant m values facts mutual-lists p state r AllHave d =
       single = λ have s v ls lv. rw ((d 1 have).moved (fit_single (count m))) (renumbered_single h values s v ls lv);
       paired = λ have s v w ls lv lw. rw ((d (count m) have).moved (fit_paired (count m))) (renumbered_pair h values s v w ls lv lw);
       data_length = r.data_length;
+      single_tail = r.single_tail;
       tail = λ each have. values_tail m values facts.adjacency each p state h (d each have);
+      builds = λ no-repeat. same_builds m m₁ facts facts₁ mutual-lists no-repeat new;
       grids = λ settings lent lent₁ g g₁ held held₁ built built₁.
           rw (cut_build m settings lent g held built, cut_build m₁ settings lent₁ g₁ held₁ built₁) (same_grids m m₁ settings facts facts₁ new mutual-lists);
     }
 
--- ---- "Demand 3 is one claim about the whole list of calls, the empty list included, and not a claim for each call."
-pub renumbering_invariance : (m : Mesh) (mark : Bool) (values : List Float) (calls : List Call) → mesh_rows m ≡ Ok tt → Mutual m
-    → Invariant m values (after_calls (state_of m mark values) calls).mesh (after_calls (state_of m mark values) calls).values (at (accumulated_permutation (state_of m mark values) calls))
-    (λ each. AcceptedHave each (count m) (longest_length m values) calls)
-renumbering_invariance m mark values calls rows mutual-lists =
+-- ---- the claim, one about the whole list of calls, the empty list included
+pub renumbering_invariance_lem : RenumberingInvariance
+renumbering_invariance_lem m mark values calls rows mutual-lists =
     let facts = mesh_facts m rows in
     renumbered_invariant m values facts mutual-lists _ _ (after_calls_lem m values facts.adjacency mark calls) (λ each. AcceptedHave each (count m) (longest_length m values) calls)
     (λ each have. data_after_calls m values facts.adjacency mark each calls have)
 
--- Where no list names a vertex twice, the builder needs as much room after the list as before.
-pub renumbering_same_room : (m : Mesh) (mark : Bool) (values : List Float) (calls : List Call) → mesh_rows m ≡ Ok tt → Mutual m → NoRepeat m → (settings : Settings) (lent : GridSlices)
-    → build_rows (after_calls (state_of m mark values) calls).mesh settings lent ≡ build_rows m settings lent
-renumbering_same_room m mark values calls rows mutual-lists no-repeat settings lent =
-    let facts = mesh_facts m rows in
-    let r = after_calls_lem m values facts.adjacency mark calls in
-    same_build_rows m (after_calls (state_of m mark values) calls).mesh settings facts (admissible_renumbered facts r.mesh r.adjacency) mutual-lists no-repeat r.mesh lent
-
 -- A mesh after the list has as many conversions held at an end as before, whatever slices the builder was lent, as long as it accepted both.
-pub renumbering_same_held : (m : Mesh) (mark : Bool) (values : List Float) (calls : List Call) → mesh_rows m ≡ Ok tt → (settings : Settings) (lent lent₁ : GridSlices) (g g₁ held held₁ : ℕ)
-    → (build_grid m settings lent).answered ≡ Ok (built g held) → (build_grid (after_calls (state_of m mark values) calls).mesh settings lent₁).answered ≡ Ok (built g₁ held₁) → held₁ ≡ held
-renumbering_same_held m mark values calls rows settings lent lent₁ g g₁ held held₁ built built₁ =
+pub held_alike : HeldAlike
+held_alike m mark values calls rows settings lent lent₁ g g₁ held held₁ built built₁ =
     let new = (after_calls_lem m values (mesh_facts m rows).adjacency mark calls).mesh in
     let after = (after_calls (state_of m mark values) calls).mesh in
     built_held after settings lent₁ g₁ held₁ built₁

@@ -3,3 +3,4 @@ pub mod Grids
 pub mod Invariance
 pub mod Lattices
 pub mod Mark
+pub mod Repeats

@@ -1,11 +1,11 @@
--- A list of renumbering calls, and the accumulated permutation that follows it (document 01, "Lists of renumberings, for demand 3"). Definitions only.
+-- A list of renumbering calls, and the accumulated permutation that follows it. Definitions only.
 use Rattle.std.specs.Prelude.{ℕ, ◌≡◌, Bool, List, [], ◌∷◌, Float, Ok}
 use Rattle.sequences.specs.Permutation.{identity, compose}
 use Rattle.refusal.specs.Refusal.{answer}
 use Rattle.mesh.specs.Mesh.{Mesh, count}
 use Rattle.renumber.specs.Renumber.{Call, call_rows, longest_length, apply_vertex_permutation}
 
--- What the calls of a list are lent, each as the one before it left it: mesh, its mark (W-208) and data.
+-- What the calls of a list are lent, each as the one before it left it: mesh, its mark that the lists ascend, and data.
 pub record State : Type 0 where
   pub mesh : Mesh
   pub mark : Bool
@@ -23,7 +23,7 @@ unfoldable pub after_calls : State → List Call → State
 after_calls state [] = state
 after_calls state (call ∷ calls) = after_calls (after_call state call) calls
 
--- 01's "plain book" is the accumulated permutation. "It is fed each call's arguments". "A call that rows 6 to 8 don't refuse turns each p(v) into q(p(v)). A refused call leaves p."
+-- The accumulated permutation is fed the calls' arguments alone: a call that rows 6 to 8 let pass turns each p(v) into q(p(v)), a refused one leaves p.
 -- Count and lengths are those of the start: no call changes them.
 unfoldable pub accumulate : ℕ → ℕ → List ℕ → Call → List ℕ
 accumulate n longest p call = answer (call_rows n longest call) (λ reason. p) (compose call.permutation p)
@@ -32,7 +32,7 @@ unfoldable pub accumulate_all : ℕ → ℕ → List ℕ → List Call → List 
 accumulate_all n longest p [] = p
 accumulate_all n longest p (call ∷ calls) = accumulate_all n longest (accumulate n longest p call) calls
 
--- "It keeps p, one number a vertex, at first p(v) = v."
+-- It keeps one number a vertex, at first p(v) = v.
 unfoldable pub accumulated_permutation : State → List Call → List ℕ
 accumulated_permutation start calls =
     accumulate_all (count start.mesh) (longest_length start.mesh start.values) (identity (count start.mesh)) calls

@@ -212,13 +212,6 @@ unfolding is_corner expected_count move_count moves
 lattice_list_length n v le lt =
     list_length_moves n v lt ∙ move_count_lem (vertex_at n v).face _ _ _ (vertex_on_lattice n v lt).face_below (some_weight n (vertex_at n v) le)
 
--- the two cases by themselves
-pub lattice_list_length_corner : (n v : ℕ) → 1 ≤ n → v < length (lattice_vertices n) → is_corner n (vertex_at n v) ≡ true → length (lattice_list n v) ≡ 5
-lattice_list_length_corner n v le lt h = lattice_list_length n v le lt ∙ (rw h refl)
-
-pub lattice_list_length_other : (n v : ℕ) → 1 ≤ n → v < length (lattice_vertices n) → is_corner n (vertex_at n v) ≡ false → length (lattice_list n v) ≡ 6
-lattice_list_length_other n v le lt h = lattice_list_length n v le lt ∙ (rw h refl)
-
 -- ---- "60n² entries"
 corners_sum : (n : ℕ) → 1 ≤ n → sum_below (λ v. cond (is_corner n (vertex_at n v)) 1 0) (length (lattice_vertices n)) ≡ 12
 corners_sum n le =

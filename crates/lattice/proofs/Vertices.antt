@@ -237,7 +237,7 @@ has_id n p on =
     let id : id_of n p ≡ place.0 = sym (id_same n first.point p first.same_weights) ∙ ap (id_of n) (sym place.2) ∙ id_of_vertex n place.0 place.1 in
     record { below = rw id place.1; same_weights = rw (id, place.2) first.same_weights }
 
--- demand 1's "ids below the vertex count"
+-- every id is below the vertex count
 pub id_below : (n : ℕ) (p : LatticePoint) → OnLattice n p → id_of n p < length (lattice_vertices n)
 id_below n p on = (has_id n p on).below
 

@@ -1,4 +1,4 @@
--- Where a lattice point appears: the faces that it lies on, and the first of them (document 01, "Lattice of frequency n": "Equal keys are one vertex; ids follow first appearance"). Definitions only.
+-- Where a lattice point appears: the faces that it lies on, and the first of them. Points with equal keys are one vertex, and ids follow the first appearance. Definitions only.
 use Rattle.std.specs.Prelude.{ℕ, ◌+◌, ◌-◌, ◌<◌, ◌≤◌, Bool, not, ◌&&◌, ◌||◌, ◌==◌, nat_lt}
 use Rattle.sequences.specs.Range.{some_below}
 use Rattle.icosahedron.specs.Icosahedron.{face_corner}

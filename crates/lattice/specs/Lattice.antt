@@ -1,4 +1,4 @@
--- The lattice of frequency n (document 01, "Lattice of frequency n"). Definitions only.
+-- The lattice of frequency n. Definitions only.
 use Rattle.std.specs.Prelude.{ℕ, suc, ◌+◌, ◌-◌, Bool, true, cond, ◌&&◌, ◌||◌, List, [], ◌∷◌, ◌++◌, map, length, ◌==◌, nat_le, slice_index_or, Float, Ok, Err}
 use Rattle.sequences.specs.Range.{some_below}
 use Rattle.sequences.specs.Tabulate.{tabulate, overwrite}
@@ -130,7 +130,7 @@ lattice_slices_fit n lent =
     nat_le (length mesh.positions) (length lent.positions) && (nat_le (length mesh.starts) (length lent.starts)
     && (nat_le (length mesh.entries) (length lent.entries) && nat_le (length (id_table n)) (length lent.ids)))
 
--- The answer, the slices at exit, and the mark that the mesh's lists ascend (W-208).
+-- The answer, the slices at exit, and the mark that the mesh's lists ascend.
 pub record LatticeOutcome : Type 0 where
   pub answered : Verdict
   pub slices : LatticeSlices
@@ -154,7 +154,7 @@ filled_lattice n lent =
 abbrev pub geometry_rows : ℕ → LatticeSlices → Verdict
 geometry_rows n lent = frequency_row n (row (lattice_slices_fit n lent) Room (Ok tt))
 
--- "a lattice and an accepted renumbering set it" (W-208): the mark, which a refused call leaves as it leaves the slices.
+-- The whole outcome: an accepted call fills the slices and sets the mark, and a refused one leaves both as they were.
 unfoldable pub lattice_geometry : ℕ → LatticeSlices → Bool → LatticeOutcome
 lattice_geometry n lent mark =
     answer (geometry_rows n lent) (λ reason. record { answered = Err reason; slices = lent; mark = mark })

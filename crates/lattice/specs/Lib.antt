@@ -6,3 +6,4 @@ pub mod Gathering
 pub mod Inside
 pub mod Lent
 pub mod FaceAxes
+pub mod Laws

@@ -1,4 +1,4 @@
--- Points that faces share, by the face that has them first: what a program that goes through the faces in order looks up (document 01: "ids follow first appearance"). Definitions only.
+-- Points that faces share, by the face that has them first: what a program that goes through the faces in order looks up, since ids follow the first appearance. Definitions only.
 use Rattle.std.specs.Prelude.{ℕ, zero, suc, ◌+◌, ◌-◌, ◌*◌, List, [], ◌∷◌, length, take, slice_index}
 use Rattle.sequences.specs.Filter.{filter}
 use Rattle.lattice.specs.Lattice.{LatticePoint, point_at, lattice_points}

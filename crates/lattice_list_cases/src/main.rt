@@ -1,7 +1,8 @@
 // What `lattice-list` prints, held to the listings of the Rust source for each frequency, in data/, and to a refusal for malformed requests.
 #![tactic(auto)]
 
-use reading::read_file;
+use reading::read_full;
+use std::fs::File;
 use std::io;
 use std::rt::Files;
 
@@ -14,10 +15,10 @@ fn report(rt: &impl Print, name: &str, input: &[u8], expected: &[u8]) -> io::Res
     }
 }
 
-// An input that prints the text of a file.
+// An input that prints the text of a file; an error where the file is not read.
 fn listed(rt: &(impl Files + Print), name: &str, input: &[u8]) -> io::Result<()> {
     let mut expected = [0u8; 16384];
-    let size = read_file(rt, name, &mut expected);
+    let size = read_full(&mut File::open(rt, name)?, &mut expected).whole_size()?;
     report(rt, name, input, &expected[..size])
 }
 

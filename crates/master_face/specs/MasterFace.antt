@@ -25,7 +25,7 @@ gram_of v0 v1 =
 unfoldable pub edge_planes_of : Vector3 → Vector3 → Vector3 → Three Vector3
 edge_planes_of p1 p2 p3 = record { first = cross_product p1 p2; second = cross_product p2 p3; third = cross_product p3 p1 }
 
--- Document 01, "Analytic location": "A master face keeps corners, normal, offset, side planes and Gram numbers, as `MasterFace::new` works them out."
+-- A master face: its corners, normal, offset, side planes and Gram numbers, as `MasterFace::new` of the source works them out.
 unfoldable pub master_face : Vector3 → Vector3 → Vector3 → MasterFace
 master_face p1 p2 p3 =
     let v0 = vector_difference p2 p1 in

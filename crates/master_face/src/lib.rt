@@ -9,7 +9,7 @@ pub mod faces;
 use vector::{Vector3, Weights};
 
 // What belongs to the three corners of a face, or to its three sides, in their order.
-// Named fields and no array: document 01 has a master face as nested structs.
+// Named fields and no array: a master face is made of nested structs.
 #[derive(Clone, Copy, Debug)]
 pub struct Three<T> {
     pub first: T,

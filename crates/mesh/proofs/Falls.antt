@@ -15,13 +15,7 @@ use Rattle.refusal.specs.declared.Refusal.TheVariants.{StartsFall}
 use Rattle.refusal.specs.Refusal.{Verdict}
 use Rattle.refusal.proofs.Rows.{refused_not_passed}
 use Rattle.mesh.specs.Rows.{not_falling, falling_start, fall_row, starts_ascend}
-
--- "the index of the first start below the one before it"
-pub record FirstFall (starts : List ℕ) (index : ℕ) : Type 0 where
-  pub behind_another : 1 ≤ index
-  pub inside : index < length starts
-  pub falls : get_or starts index 0 < get_or starts (index - 1) 0
-  pub none_before : (i : ℕ) → 1 ≤ i → i < index → get_or starts (i - 1) 0 ≤ get_or starts i 0
+use Rattle.mesh.specs.Laws.{FirstFall}
 
 module _ (starts : List ℕ) where
   -- how many starts have one before them

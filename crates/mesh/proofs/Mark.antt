@@ -4,7 +4,6 @@ use Prim.Native.Nat.{ℕ, suc, ◌+◌, ◌-◌, ◌≤◌, ◌<◌}
 use native.Mathlib.Omega.{arith}
 use native.Mathlib.Numerals.{add-one}
 use mathlib.Core.Path.{◌≡◌, refl, sym, ◌∙◌}
-use mathlib.Core.Logic.{◌↔◌}
 use mathlib.Core.Bool.{Bool, true, false}
 use mathlib.Core.List.{List}
 use lib.ListN.{length, get_or}
@@ -25,7 +24,8 @@ use Rattle.refusal.proofs.Rows.{refused_not_passed, answer_refused, answers_rela
 use Rattle.mesh.specs.Mesh.{Mesh, count, neighbours}
 use Rattle.mesh.specs.Rows.{not_falling, adjacency_rows}
 use Rattle.mesh.specs.Mark.{list_ascends, lists_ascend, Truthful, MarkOutcome, mark_outcome, mark_ascending}
-use Rattle.mesh.proofs.Refusals.{IndexTold, adjacency_index}
+use Rattle.mesh.specs.Laws.{ReadingExact, ReadingTruthful, ReadingSame, ReadingIndex}
+use Rattle.mesh.proofs.Refusals.{adjacency_index}
 
 -- ---- one list, and all of them
 list_ascends_lem : (list : List ℕ) → Nondecreasing list → list_ascends list ≡ true
@@ -61,21 +61,18 @@ reading_mark : (m : Mesh) (mark : Bool) → adjacency_rows m ≡ Ok tt → (mark
 unfolding mark_ascending
 reading_mark m mark rows = rw rows refl
 
--- "sets the mark exactly when all its lists ascend, and else clears it"
-pub reading_exact : (m : Mesh) (mark : Bool) → adjacency_rows m ≡ Ok tt → ((mark_ascending m mark).mark ≡ true) ↔ ((v : ℕ) → v < count m → Nondecreasing (neighbours m v))
+pub reading_exact : ReadingExact
 reading_exact m mark rows =
     let found = reading_mark m mark rows in
     (λ marked. ascending_lists m (rw found at marked), λ ascend. found ∙ lists_ascend_lem m ascend)
 
--- 18 carries the index of the first start that falls, every other refusal 0.
-pub reading_index : (m : Mesh) (mark : Bool) (reason : Refusal) → (mark_ascending m mark).answered ≡ Err reason → IndexTold m.starts reason
+pub reading_index : ReadingIndex
 unfolding mark_ascending
 reading_index m mark reason h =
     adjacency_index m reason
     (answer_refused (λ (o : MarkOutcome). o.answered ≡ Err reason) (adjacency_rows m) _ _ reason (λ e. refused_not_passed reason (sym e)) (λ other e. cc) h)
 
--- The mark before changes nothing but the mark after a refusal.
-pub reading_same : (m : Mesh) (mark other : Bool) → ((mark_ascending m mark).answered ≡ (mark_ascending m other).answered) × (adjacency_rows m ≡ Ok tt → mark_ascending m mark ≡ mark_ascending m other)
+pub reading_same : ReadingSame
 unfolding mark_ascending
 reading_same m mark other =
     (answers_relate (λ (o₁ o₂ : MarkOutcome). o₁.answered ≡ o₂.answered) (adjacency_rows m) _ _ _ _ (λ reason. refl) refl, λ rows. rw rows refl)
@@ -87,7 +84,7 @@ pub mark_truthful : {A : Type 0} (mesh_in : A → Mesh) (mark_in : A → Bool) (
 mark_truthful mesh_in mark_in (Ok tt) refused accepted before after = after refl
 mark_truthful mesh_in mark_in (Err reason) refused accepted before after = before reason
 
-pub reading_truthful : (m : Mesh) (mark : Bool) → Truthful m mark → Truthful m (mark_ascending m mark).mark
+pub reading_truthful : ReadingTruthful
 unfolding mark_ascending
 reading_truthful m mark before =
     mark_truthful (λ (outcome : MarkOutcome). m) (λ (outcome : MarkOutcome). outcome.mark) (adjacency_rows m) (λ reason. mark_outcome (Err reason) mark) (mark_outcome (Ok tt) (lists_ascend m)) (λ reason. before) (λ rows ascend. ascend)

@@ -1,8 +1,8 @@
--- Why a mesh is refused. `list_reasons`, `adjacency_reasons`, `mesh_reasons`: each reason is one of the rows'. `adjacency_index`, `mesh_index`: 18 tells the first start that falls, every other number nothing. `same_verdict`, `same_accepted`: the verdict is document 01's, but for 17 and 18 where that has 3. Assumes nothing.
+-- Why a mesh is refused. `list_reasons`, `adjacency_reasons`, `mesh_reasons`: each reason is one of the rows'. `adjacency_index`, `mesh_index`: 18 tells the first start that falls, every other number nothing. `same_verdict`, `same_accepted`: the verdict is that of rows 2 to 4 before 17 and 18 were taken out of 3. Assumes nothing.
 use Prim.Native.Nat.{ℕ, suc}
 use native.Mathlib.Omega.{arith}
 use mathlib.Core.Path.{◌≡◌, refl, sym, ap, ◌∙◌}
-use mathlib.Core.Logic.{◌≢◌, ◌⊎◌, inl, inr, ◌↔◌}
+use mathlib.Core.Logic.{◌≢◌, inl, inr}
 use mathlib.Core.Bool.{Bool, true, false, ◌&&◌}
 use mathlib.Core.List.{List}
 use lib.Dec.{eqb}
@@ -15,7 +15,8 @@ use Rattle.refusal.specs.Refusal.{number_of, index_of, Verdict, row}
 use Rattle.refusal.proofs.Rows.{refused_not_passed, EachReason, reasons_passed, reasons_refused, reasons_row, reasons_then}
 use Rattle.mesh.specs.Mesh.{Mesh, count}
 use Rattle.mesh.specs.Rows.{positions_fit, starts_counted, starts_span, starts_ascend, falling_start, fall_row, lists_limited, ids_below, list_rows, positions_admissible, adjacency_rows, mesh_rows}
-use Rattle.mesh.proofs.Falls.{FirstFall, fall_first, ascend_no_fall, ascend_fall}
+use Rattle.mesh.specs.Laws.{IndexTold, verdict_of_three, SameVerdict, SameAccepted}
+use Rattle.mesh.proofs.Falls.{fall_first, ascend_no_fall, ascend_fall}
 
 -- ---- each reason is one of the rows': 18 only where a start falls
 module _ (P : Refusal → Type 0) where
@@ -44,10 +45,6 @@ module _ (P : Refusal → Type 0) where
         reasons_then P (adjacency_rows m) _ adjacency_reasons (reasons_row P (positions_admissible m.positions) Position (Ok tt) (λ e. at_5) (λ admissible. reasons_passed P))
 
 -- ---- the index
--- what the index of a refusal tells of the starts: with 18 it is that of the first that falls, and with every other number it is 0
-abbrev pub IndexTold : List ℕ → Refusal → Type 0
-IndexTold starts reason = ((number_of reason ≡ 18) × FirstFall starts (index_of reason)) ⊎ ((number_of reason ≢ 18) × (index_of reason ≡ 0))
-
 other_none : (reason : Refusal) → number_of reason ≢ 18 → index_of reason ≡ 0
 other_none (StartsFall index) other = absurd (other refl)
 other_none reason other = refl
@@ -70,32 +67,15 @@ module _ (m : Mesh) where
       mesh_reasons (IndexTold m.starts) m (told_none m.starts Count (λ z. omega arith)) (told_none m.starts Starts (λ z. omega arith)) (told_none m.starts StartsSpan (λ z. omega arith)) (told_fall m.starts)
       (told_none m.starts Id (λ z. omega arith)) (told_none m.starts Position (λ z. omega arith))
 
--- ---- document 01's own rows 2 to 4, from which W-209 took 17 and 18
--- its row 3 refuses "wrong length, not from 0, falling, last not the entry count, or a neighbour list over 32"
-abbrev pub row_three : Mesh → Bool
-row_three m = starts_counted (count m) m.starts && (starts_span (count m) m.starts m.entries && (starts_ascend (count m) m.starts && lists_limited (count m) m.starts))
-
-abbrev pub document_rows : Mesh → Verdict
-document_rows m = row (positions_fit m.positions) Count (row (row_three m) Starts (row (ids_below (count m) m.entries) Id (Ok tt)))
-
--- a refusal as document 01 gives it: for rows 17 and 18 its row 3
-abbrev pub document_reason : Refusal → Refusal
-document_reason StartsSpan = Starts
-document_reason (StartsFall index) = Starts
-document_reason reason = reason
-
-abbrev pub document_verdict : Verdict → Verdict
-document_verdict (Ok _) = Ok tt
-document_verdict (Err reason) = Err (document_reason reason)
-
-pub same_verdict : (m : Mesh) → document_verdict (adjacency_rows m) ≡ document_rows m
+-- ---- row 3 before 17 and 18 were taken out of it
+pub same_verdict : SameVerdict
 unfolding adjacency_rows list_rows starts_counted
 same_verdict m =
     same (positions_fit m.positions) (eqb (length m.starts) (suc (count m))) (starts_span (count m) m.starts m.entries) (falling_start m.starts) (starts_ascend (count m) m.starts) (lists_limited (count m) m.starts)
     (ids_below (count m) m.entries) (λ counted. ascend_no_fall (count m) m.starts (eqb-true _ _ counted)) (λ counted. ascend_fall (count m) m.starts (eqb-true _ _ counted))
   where
     same : (fit counted span : Bool) (fall : Option ℕ) (ascend limited below : Bool) → (counted ≡ true → fall ≡ None → ascend ≡ true) → (counted ≡ true → (index : ℕ) → fall ≡ Some index → ascend ≡ false)
-        → document_verdict (row fit Count (row counted Starts (row span StartsSpan (fall_row fall (row limited Starts (row below Id (Ok tt)))))))
+        → verdict_of_three (row fit Count (row counted Starts (row span StartsSpan (fall_row fall (row limited Starts (row below Id (Ok tt)))))))
         ≡ row fit Count (row (counted && (span && (ascend && limited))) Starts (row below Id (Ok tt)))
     same false counted span fall ascend limited below up down = refl
     same true false span fall ascend limited below up down = refl
@@ -106,9 +86,9 @@ same_verdict m =
     same true true true None ascend true true up down = rw (up refl refl) refl
 
 -- so exactly the same meshes pass
-pub same_accepted : (m : Mesh) → (adjacency_rows m ≡ Ok tt) ↔ (document_rows m ≡ Ok tt)
-same_accepted m = (λ h. sym (same_verdict m) ∙ ap document_verdict h, λ h. passed (adjacency_rows m) (same_verdict m ∙ h))
+pub same_accepted : SameAccepted
+same_accepted m = (λ h. sym (same_verdict m) ∙ ap verdict_of_three h, λ h. passed (adjacency_rows m) (same_verdict m ∙ h))
   where
-    passed : (v : Verdict) → document_verdict v ≡ Ok tt → v ≡ Ok tt
+    passed : (v : Verdict) → verdict_of_three v ≡ Ok tt → v ≡ Ok tt
     passed (Ok _) h = refl
     passed (Err reason) h = absurd (refused_not_passed _ h)

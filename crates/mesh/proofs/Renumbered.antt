@@ -15,7 +15,7 @@ use Rattle.mesh.specs.Adjacency.{Mutual, NoRepeat}
 use Rattle.mesh.proofs.Facts.{AdjacencyFacts, MeshFacts}
 use Rattle.mesh.proofs.Neighbours.{neighbour_below}
 
--- The mesh m₁ is the mesh m with each id taken through p, whose inverse is b. Lists are compared sorted (W-208). Whatever is worked out from positions and lists alone, as a grid is, can be compared by this.
+-- The mesh m₁ is the mesh m with each id taken through p, whose inverse is b. Lists are compared sorted. Whatever is worked out from positions and lists alone, as a grid is, can be compared by this.
 pub record Renumbered (m m₁ : Mesh) (p b : ℕ → ℕ) : Type 0 where
   pub bijection : Bijection (count m) p b
   pub same_count : count m₁ ≡ count m

@@ -1,10 +1,10 @@
--- What demand 3 asks of neighbour lists. Definitions only.
+-- What may be asked of neighbour lists beyond the rows. Definitions only.
 use Rattle.std.specs.Prelude.{ℕ, ◌<◌, ◌↔◌}
 use mathlib.Core.List.{Memᴰ}
 use Rattle.sequences.specs.Ascending.{Distinct}
 use Rattle.mesh.specs.Mesh.{Mesh, count, neighbours}
 
--- "Mutual means: v' stands in v's list exactly when v stands in that of v'."
+-- Neighbours are mutual: w stands in v's list exactly where v stands in that of w.
 abbrev pub Mutual : Mesh → Type 0
 Mutual m = (v w : ℕ) → v < count m → w < count m → Memᴰ w (neighbours m v) ↔ Memᴰ v (neighbours m w)
 

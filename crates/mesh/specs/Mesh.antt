@@ -1,4 +1,4 @@
--- A mesh: "positions (f64, three a vertex), list starts (u32, count + 1) and entries (u16)" (document 01). Definitions only.
+-- A mesh: positions (f64, three a vertex), and the neighbour lists as starts (u32, one a vertex and one more) and entries (u16). Definitions only.
 use Rattle.std.specs.Prelude.{ℕ, ◌+◌, ◌*◌, ◌/◌, ◌≤◌, ◌<◌, List, length, get_or, Float}
 use Rattle.std.specs.Float.{nan}
 use Rattle.sequences.specs.Starts.{part}

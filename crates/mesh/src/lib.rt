@@ -1,15 +1,16 @@
-// Rows 2 to 6 of document 01's table, with rows 17 and 18 of W-209: what an operation asks of the mesh that it is lent, and of a permutation
-// of its ids. The call that reads whether the neighbour lists ascend (W-208). Positions, starts and entries stand apart, as C lends them:
-// `Mesh` holds the three once they have passed.
+// Rows 2 to 6, with 17 and 18: what an operation asks of the mesh that it is lent, and of a permutation of its ids. The call that reads
+// whether the neighbour lists ascend. Positions, starts and entries stand apart, as C lends them: `Mesh` holds the three once they have
+// passed.
 #![tactic(auto)]
 
 mod checked;
+pub mod laws;
 
 ghost use Rattle.std.specs.Prelude.{◌≡◌, true, suc, ◌*◌, ◌+◌, ◌-◌, ◌≤◌, ◌<◌, length, None};
 ghost use Rattle.sequences.specs.Permutation.{is_permutation};
 ghost use Rattle.sequences.specs.Starts.{part};
 ghost use Rattle.mesh.specs.Mesh.{mesh_of, vertex_count, position_of, HasList};
-ghost use Rattle.mesh.specs.Rows.{greatest_count, positions_fit, starts_counted, starts_span, falling_start, lists_limited, ids_below, list_rows, adjacency_rows, mesh_rows};
+ghost use Rattle.mesh.specs.Rows.{greatest_count, positions_fit, starts_counted, starts_span, falling_start, lists_limited, ids_below, list_rows, adjacency_rows};
 ghost use Rattle.mesh.specs.Mark.{mark_outcome, mark_ascending};
 
 pub use checked::Mesh;
@@ -131,7 +132,7 @@ pub fn check_lists(count: usize, starts: &[u32], entries: &[u16]) -> Result<(), 
     Ok(())
 }
 
-// Rows 2 to 4, which every operation on a mesh begins with. This and `check_mesh` are kept for callers that want the rows alone.
+// Rows 2 to 4, which every operation on a mesh begins with.
 #[tactic(auto, unfolding(crate::specs::Rows::adjacency_rows))]
 pub fn check_adjacency(positions: &[f64], starts: &[u32], entries: &[u16]) -> Result<(), Refusal>
     ensures { result ≡ adjacency_rows (mesh_of positions.now starts.now entries.now) }
@@ -140,14 +141,6 @@ pub fn check_adjacency(positions: &[f64], starts: &[u32], entries: &[u16]) -> Re
         return Err(Refusal::Count);
     }
     check_lists(vertex_count(positions), starts, entries)
-}
-
-// Rows 2 to 5, with which the grid's builder begins.
-#[tactic(auto, unfolding(crate::specs::Rows::checked_mesh, crate::specs::Rows::mesh_rows))]
-pub fn check_mesh(positions: &[f64], starts: &[u32], entries: &[u16]) -> Result<(), Refusal>
-    ensures { result ≡ mesh_rows (mesh_of positions.now starts.now entries.now) }
-{
-    Mesh::new(positions, starts, entries)?.check_positions()
 }
 
 // Reads the lists of a mesh: behind rows 2 to 4 the mark is set where all of them ascend, and else cleared. A refusal leaves it.

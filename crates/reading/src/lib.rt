@@ -1,36 +1,47 @@
-// Input and files read into a buffer that the caller lends: nothing is allocated, and a failed read is the end.
+// Input read into a buffer that the caller lends: nothing is allocated.
 #![tactic(auto)]
 
-ghost use Rattle.std.specs.Prelude.{◌≤◌, ◌≡◌, length, take};
+ghost use Rattle.reading.specs.Filling.{Fills, IsWholeSize};
 
-use std::fs::File;
-use std::io::Read;
-use std::rt::Files;
+use std::io;
+use std::io::{ErrorKind, Read};
 
-// Reads until the text is full, the input ends or a read fails; how many bytes were read.
-pub fn read_full<R: Read + Drop>(mut input: R, text: &mut [u8]) -> usize
-    ensures in_bounds { result ≤ length text.new }
-    ensures prefix { result ≡ length (take result text.new) }
+// How the filling of a text ended, and how many bytes were read where it is not full.
+#[derive(Drop)]
+pub enum Filling {
+    // The text is full: whether more follows is not known.
+    Full,
+    // No byte is left.
+    Ended(usize),
+    // An interrupted read too.
+    Failed(usize, io::Error),
+}
+
+impl Filling {
+    // How many bytes the input had, all of which were read. A text that is full is an error too: it needs one place more than the input.
+    pub fn whole_size(self) -> io::Result<usize>
+        ensures { IsWholeSize self result }
+    {
+        match self {
+            Filling::Full => Err(io::Error::from(ErrorKind::FileTooLarge)),
+            Filling::Ended(size) => Ok(size),
+            Filling::Failed(_, error) => Err(error),
+        }
+    }
+}
+
+// Reads until the text is full, the input ends or a read fails. Behind the bytes read the text may have changed, as std's `read` leaves it open.
+pub fn read_full<R: Read>(input: &mut R, text: &mut [u8]) -> Filling
+    ensures { Fills (R.remaining input.old) (R.remaining input.new) text.new result }
 {
     let mut done = 0;
     // By hand, since std's loops over `read` do not say how much was read before a failure.
     while done < text.len() {
         match input.read(&mut text[done..]) {
-            Ok(0) | Err(_) => break,
+            Ok(0) => return Filling::Ended(done),
             Ok(n) => done += n,
+            Err(error) => return Filling::Failed(done, error),
         }
     }
-    done
-}
-
-// How many bytes were read. A file that is missing is an empty text, which shows in what a program prints of it.
-// One that is too long is cut.
-pub fn read_file(files: &impl Files, name: &str, text: &mut [u8]) -> usize
-    ensures in_bounds { result ≤ length text.new }
-    ensures prefix { result ≡ length (take result text.new) }
-{
-    match File::open(files, name) {
-        Ok(file) => read_full(file, text),
-        Err(_) => 0,
-    }
+    Filling::Full
 }

@@ -1,76 +1,11 @@
--- Words, lists and hashes worked out from the definitions. Assumes nothing.
-use Rattle.std.proofs.Common.{ℕ, ◌≡◌, Bool, true, false, List, [], ◌∷◌, Result, Ok, Err, map, refl}
-use Rattle.std.specs.Result.{is_ok}
-use lib.Ieee.{nan, to_bits}
-use Rattle.records.specs.declared.reader.Fault.{Fault}
-use Rattle.records.specs.declared.reader.Fault.TheVariants.{Malformed}
-use Rattle.records.specs.At.{at}
-use Rattle.records.specs.Words.{digit_value, leading_digits, with_digits, digits_word, digits_at, nan_pattern, spells_nan, token_at, line_goes_on, delimited, next_word, expected}
-use Rattle.records.specs.Lists.{pattern, expected_each}
-use Rattle.records.specs.Hash.{offset_basis, hashed_byte, hashed_bytes, bytes_of, bytes_of_each}
+-- The worked cases, by evaluation. Assumes nothing.
+use Rattle.std.proofs.Common.{refl}
+use lib.Ieee.{to_bits}
+use Rattle.records.specs.Words.{digit_value, leading_digits, with_digits, digits_word, digits_at, spells_nan, token_at, line_goes_on, delimited, next_word, expected}
+use Rattle.records.specs.Lists.{expected_each}
+use Rattle.records.specs.Hash.{hashed_byte, hashed_bytes, bytes_of, bytes_of_each}
+use Rattle.records.specs.Worked.{WorkedRecords}
 
--- the first word of a text, and the place behind it
-abbrev first : List ℕ → Result ℕ Fault × ℕ
-first text = let word = next_word (at text 0) in (word.outcome, word.behind.place)
-
--- a word that is malformed, with the reader before it
-abbrev malformed : Result ℕ Fault × ℕ
-malformed = (Err Malformed, 0)
-
--- `1f 0`, `1f`, `nan 0` and 16 digits, each with a line feed behind it
-pub good_words :
-    map first
-    ((49 ∷ 102 ∷ 32 ∷ 48 ∷ 10 ∷ [])
-    ∷ (49 ∷ 102 ∷ 10 ∷ [])
-    ∷ (110 ∷ 97 ∷ 110 ∷ 32 ∷ 48 ∷ 10 ∷ [])
-    ∷ (102 ∷ 102 ∷ 102 ∷ 102 ∷ 102 ∷ 102 ∷ 102 ∷ 102 ∷ 102 ∷ 102 ∷ 102 ∷ 102 ∷ 102 ∷ 102 ∷ 102 ∷ 102 ∷ 10 ∷ [])
-    ∷ [])
-    ≡ (Ok 31, 3) ∷ (Ok 31, 2) ∷ (Ok nan_pattern, 4) ∷ (Ok 0xffffffffffffffff, 16) ∷ []
-unfolding next_word delimited token_at spells_nan digits_at digits_word with_digits leading_digits digit_value line_goes_on
-good_words = refl
-
--- upper case, 17 digits, more than `nan`, no word, a line that does not end, a space at a line's end
-pub bad_words :
-    map first
-    ((49 ∷ 70 ∷ 10 ∷ [])
-    ∷ (48 ∷ 48 ∷ 48 ∷ 48 ∷ 48 ∷ 48 ∷ 48 ∷ 48 ∷ 48 ∷ 48 ∷ 48 ∷ 48 ∷ 48 ∷ 48 ∷ 48 ∷ 48 ∷ 49 ∷ 10 ∷ [])
-    ∷ (110 ∷ 97 ∷ 110 ∷ 111 ∷ 10 ∷ [])
-    ∷ (10 ∷ [])
-    ∷ (49 ∷ [])
-    ∷ (49 ∷ 32 ∷ 10 ∷ [])
-    ∷ [])
-    ≡ malformed ∷ malformed ∷ malformed ∷ malformed ∷ malformed ∷ malformed ∷ []
-unfolding next_word delimited token_at spells_nan digits_at digits_word with_digits leading_digits digit_value line_goes_on
-bad_words = refl
-
--- what `nan` stands for is the pattern of a NaN
-pub nan_pattern_lem : pattern nan ≡ nan_pattern
-unfolding to_bits
-nan_pattern_lem = refl
-
--- whether a text holds the numbers 1 and 2
-abbrev holds_one_two : List ℕ → Bool
-holds_one_two text = is_ok (expected_each (1 ∷ 2 ∷ []) (at text 0)).outcome
-
--- `1 2`, `1 3`, `2 2`, `1`, and `1 2` with two spaces
-pub lists :
-    map holds_one_two
-    ((49 ∷ 32 ∷ 50 ∷ 10 ∷ [])
-    ∷ (49 ∷ 32 ∷ 51 ∷ 10 ∷ [])
-    ∷ (50 ∷ 32 ∷ 50 ∷ 10 ∷ [])
-    ∷ (49 ∷ 10 ∷ [])
-    ∷ (49 ∷ 32 ∷ 32 ∷ 50 ∷ 10 ∷ [])
-    ∷ [])
-    ≡ true ∷ false ∷ false ∷ false ∷ false ∷ []
-unfolding expected_each expected next_word delimited token_at spells_nan digits_at digits_word with_digits leading_digits digit_value line_goes_on
-lists = refl
-
--- the published hashes of `a` and `foobar`
-pub hashes : map (hashed_bytes offset_basis) ((97 ∷ []) ∷ (102 ∷ 111 ∷ 111 ∷ 98 ∷ 97 ∷ 114 ∷ []) ∷ []) ≡ 0xaf63dc4c8601ec8c ∷ 0x85944171f73967e8 ∷ []
-unfolding hashed_bytes hashed_byte
-hashes = refl
-
--- the bytes of a number stand least significant first: 25185 is `ab`, 97 + 256 · 98
-pub bytes_in_order : bytes_of_each 2 (25185 ∷ 99 ∷ []) ≡ 97 ∷ 98 ∷ 99 ∷ 0 ∷ []
-unfolding bytes_of_each bytes_of
-bytes_in_order = refl
+pub worked_records_hold : WorkedRecords
+unfolding to_bits digit_value leading_digits with_digits digits_word digits_at spells_nan token_at line_goes_on delimited next_word expected expected_each hashed_byte hashed_bytes bytes_of bytes_of_each
+worked_records_hold = record { good_words = refl; bad_words = refl; nan_word = refl; lists = refl; hashes = refl; bytes_in_order = refl }

@@ -2,8 +2,7 @@
 -- A list of doubles is compared as the list of their bit patterns, `map pattern`.
 use Rattle.std.specs.Prelude.{ℕ, zero, suc, ◌≡◌, Bool, cond, List, [], ◌∷◌, Result, Ok, Err, Float}
 use Rattle.std.specs.Float.{binary64}
-use Rattle.std.specs.Float.Ieee.{to_bits, fits}
-use Rattle.std.proofs.Math.Dec.{T}
+use Rattle.std.specs.Float.Ieee.{to_bits}
 use Rattle.sequences.specs.Tabulate.{tabulate}
 use Rattle.records.specs.At.{At}
 use Rattle.records.specs.declared.reader.Fault.{Fault}
@@ -13,10 +12,6 @@ use Rattle.records.specs.Hash.{hash_of}
 -- "A double is its bit pattern; every NaN is `nan`": there is one NaN here, and its pattern is `nan_pattern`.
 abbrev pub pattern : Float → ℕ
 pattern x = to_bits binary64 x
-
--- A value that binary64 has.
-abbrev pub IsDouble : Float → Type 0
-IsDouble x = T (fits binary64 x)
 
 -- "A list is one word an element": each is expected in its turn.
 unfoldable pub expected_each : List ℕ → At → Reading (Unit {0})

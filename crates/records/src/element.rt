@@ -2,8 +2,10 @@
 ghost use Rattle.std.specs.Prelude.{true, false, cond, eqb, ℕ, ◌≡◌, ◌≤◌, ◌<◌, ◌^◌, refl};
 ghost use Rattle.std.specs.Float.{binary64};
 ghost use Rattle.std.specs.Float.Ieee.{of_bits};
-ghost use Rattle.records.specs.Lists.{pattern, IsDouble};
-ghost use Rattle.std.proofs.Common.{rules};
+ghost use Rattle.binary64.specs.Laws.{IsDouble};
+ghost use Rattle.records.specs.Lists.{pattern};
+ghost use Rattle.std.proofs.Common.{lit≤};
+ghost use Rattle.std.proofs.Math.Nat.{le-pred_of_lt};
 ghost use lib.Ieee.Bits.{of_bits-to_bits, to_bits-lt};
 
 use crate::word::NAN;
@@ -52,7 +54,7 @@ impl Element for bool {
 
     ghost is_value = { λ x. Unit {0} };
 
-    ghost fits = { elim [ true ↦ λ h. Prim.search rules | false ↦ λ h. Prim.search rules ] };
+    ghost fits = { elim [ true ↦ λ h. lit≤ tt | false ↦ λ h. lit≤ tt ] };
 
     ghost comes_back = { elim [ true ↦ λ h. refl | false ↦ λ h. refl ] };
 
@@ -81,7 +83,7 @@ impl Element for u8 {
 
     ghost is_value = { λ x. x < 2 ^ 8 };
 
-    ghost fits = { Prim.search rules };
+    ghost fits = { λ x h. le-pred_of_lt h };
 
     ghost comes_back = { λ x h. refl };
 
@@ -109,7 +111,7 @@ impl Element for u16 {
 
     ghost is_value = { λ x. x < 2 ^ 16 };
 
-    ghost fits = { Prim.search rules };
+    ghost fits = { λ x h. le-pred_of_lt h };
 
     ghost comes_back = { λ x h. refl };
 
@@ -137,7 +139,7 @@ impl Element for u32 {
 
     ghost is_value = { λ x. x < 2 ^ 32 };
 
-    ghost fits = { Prim.search rules };
+    ghost fits = { λ x h. le-pred_of_lt h };
 
     ghost comes_back = { λ x h. refl };
 
@@ -165,7 +167,7 @@ impl Element for u64 {
 
     ghost is_value = { λ x. x < 2 ^ 64 };
 
-    ghost fits = { Prim.search rules };
+    ghost fits = { λ x h. le-pred_of_lt h };
 
     ghost comes_back = { λ x h. refl };
 
@@ -193,7 +195,7 @@ impl Element for f64 {
 
     ghost is_value = { IsDouble };
 
-    ghost fits = { λ x h. Prim.search (rules, to_bits-lt binary64 x h) };
+    ghost fits = { λ x h. le-pred_of_lt (to_bits-lt binary64 x h) };
 
     ghost comes_back = { of_bits-to_bits binary64 };
 

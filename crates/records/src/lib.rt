@@ -10,6 +10,7 @@ mod word;
 
 ghost use Rattle.std.specs.Prelude.{◌≡◌};
 ghost use Rattle.std.specs.List.{list_all};
+ghost use Rattle.records.specs.Worked.{WorkedRecords};
 
 pub use element::Element;
 pub use form::{Hashes, ListForm, Words};
@@ -21,3 +22,8 @@ pub fn all_are<T: PartialEq + Copy>(list: &[T], value: T) -> bool
 {
     list.iter().all(|x| *x == value)
 }
+
+/// What the definitions give of small texts and lists.
+pub fn worked_records()
+    ensures { WorkedRecords }
+{}

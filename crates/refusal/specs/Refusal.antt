@@ -1,9 +1,9 @@
--- Refusals by document 01's table "Refused, by the place of the check", and chains of its rows: "Each is returned alone, exactly when its row holds and no earlier row does". Definitions only.
+-- The refusals, and chains of their rows: a row's refusal is returned alone, exactly where that row holds and no earlier one does. Definitions only.
 use Rattle.std.specs.Prelude.{ℕ, Bool, true, false, Result, Ok, Err}
 use Rattle.refusal.specs.declared.Refusal.{Refusal}
 use Rattle.refusal.specs.declared.Refusal.TheVariants.{Frequency, Count, Starts, Id, Position, Permutation, EntriesPerVertex, Room, Direction, Flags, EmptyCell, NoTriangle, Unreached, StartsSpan, StartsFall, Factor, Margin}
 
--- The number of a refusal's row in that table and in the requests that added rows 17 to 20.
+-- The number of a refusal's row. 14 to 16 are not in use.
 abbrev pub number_of : Refusal → ℕ
 number_of Frequency = 1
 number_of Count = 2
@@ -23,7 +23,7 @@ number_of (StartsFall index) = 18
 number_of Factor = 19
 number_of Margin = 20
 
--- The index that row 18 carries (W-209); 0 for the others.
+-- The index that row 18 carries; 0 for the others.
 abbrev pub index_of : Refusal → ℕ
 index_of Frequency = 0
 index_of Count = 0

@@ -4,7 +4,7 @@
 ghost use Rattle.std.specs.Prelude.{◌≡◌};
 ghost use Rattle.refusal.specs.Refusal.{number_of, index_of};
 
-// The rows of document 01's table "Refused, by the place of the check", with those that requests added: each refuses for one reason.
+// The rows of the table of refusals: each refuses for one reason.
 // A chain of checks is a `Result<(), Refusal>`, so that `?` hands on the first row that refuses.
 #[derive(Clone, Copy, Debug, PartialEq, Eq)]
 pub enum Refusal {
@@ -22,7 +22,7 @@ pub enum Refusal {
     NoTriangle,
     Unreached,
     StartsSpan,
-    // Names the start that falls, by its index (W-209).
+    // Names the start that falls, by its index.
     StartsFall { index: usize },
     Factor,
     Margin,

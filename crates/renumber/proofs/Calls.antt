@@ -31,7 +31,7 @@ accepted_scratch n longest call h =
     (row_passed (scratch_fits (max longest (length call.permutation)) call.scratch_lengths) Room _
     (row_passed (entries_per_vertex_fit n call.entries_per_vertex) EntriesPerVertex _ (row_passed (is_permutation n call.permutation) Permutation _ h).1).1).0
 
--- "The mesh rows can't refuse, as the start passed them."
+-- The mesh rows refuse no call on a mesh that has passed them.
 pub call_rows_decide : (m : Mesh) → AdjacencyFacts m → (values : List Float) (call : Call) → renumber_rows m values call ≡ call_rows (count m) (longest_length m values) call
 unfolding renumber_rows
 call_rows_decide m facts values call = rw (adjacency_passed m facts) refl

@@ -12,14 +12,9 @@ use Rattle.mesh.specs.Mark.{lists_ascend, Truthful}
 use Rattle.mesh.proofs.Facts.{adjacency_facts}
 use Rattle.mesh.proofs.Mark.{lists_ascend_lem, mark_truthful}
 use Rattle.renumber.specs.Renumber.{Call, longest_length, call_rows, RenumberOutcome, renumber_rows, renumbered_mesh, apply_vertex_permutation}
+use Rattle.renumber.specs.Laws.{AlikeButMark}
 use Rattle.renumber.proofs.RenumberedMesh.{renumbered_count, renumbered_ascends}
 use Rattle.renumber.proofs.Calls.{accepted_permutation}
-
--- two outcomes that are alike but for the mark
-pub record Alike (o₁ o₂ : RenumberOutcome) : Type 0 where
-  pub verdict : o₁.answered ≡ o₂.answered
-  pub mesh : o₁.mesh ≡ o₂.mesh
-  pub values : o₁.values ≡ o₂.values
 
 module _ (m : Mesh) (values : List Float) (call : Call) where
   accepted_ascend : renumber_rows m values call ≡ Ok tt → lists_ascend (renumbered_mesh call.permutation m) ≡ true
@@ -35,8 +30,7 @@ module _ (m : Mesh) (values : List Float) (call : Call) where
   renumbering_truthful mark before =
       mark_truthful (λ (o : RenumberOutcome). o.mesh) (λ (o : RenumberOutcome). o.mark) (renumber_rows m values call) _ _ (λ reason. before) (λ rows marked. accepted_ascend rows)
 
-  -- "no other outcome depends on it"
-  pub renumbering_same : (mark other : Bool) → Alike (apply_vertex_permutation m mark values call) (apply_vertex_permutation m other values call)
+  pub renumbering_same : (mark other : Bool) → AlikeButMark (apply_vertex_permutation m mark values call) (apply_vertex_permutation m other values call)
   unfolding apply_vertex_permutation
   renumbering_same mark other =
-      answers_relate Alike (renumber_rows m values call) _ _ _ _ (λ reason. record { verdict = refl; mesh = refl; values = refl }) (record { verdict = refl; mesh = refl; values = refl })
+      answers_relate AlikeButMark (renumber_rows m values call) _ _ _ _ (λ reason. record { verdict = refl; mesh = refl; values = refl }) (record { verdict = refl; mesh = refl; values = refl })

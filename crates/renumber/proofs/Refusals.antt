@@ -13,7 +13,8 @@ use Rattle.std.specs.Prelude.{Ok, Err}
 use Rattle.refusal.proofs.Rows.{refused_not_passed, answer_refused, EachReason, reasons_passed, reasons_row, reasons_then}
 use Rattle.mesh.specs.Mesh.{Mesh, count}
 use Rattle.mesh.specs.Rows.{adjacency_rows}
-use Rattle.mesh.proofs.Refusals.{IndexTold, told_none, adjacency_index}
+use Rattle.mesh.specs.Laws.{IndexTold}
+use Rattle.mesh.proofs.Refusals.{told_none, adjacency_index}
 use Rattle.renumber.specs.Renumber.{Call, entries_per_vertex_fit, longest_length, scratch_fits, call_rows, RenumberOutcome, renumber_rows, apply_vertex_permutation}
 
 module _ (m : Mesh) (mark : Bool) (values : List Float) (call : Call) where

@@ -1,23 +1,17 @@
 -- What an accepted renumbering tells: `renumbered_below`. The vertex count is as it was, and every entry that it leaves is below it. Assumes nothing.
-use Prim.Native.Nat.{ℕ, ◌<◌}
 use mathlib.Core.Path.{◌≡◌}
 use mathlib.Core.Bool.{Bool}
 use mathlib.Core.List.{List}
-use lib.ListN.{length, get_or}
 use lib.Ieee.{Float}
 use Rattle.std.specs.Prelude.{Ok}
 use Rattle.refusal.proofs.Rows.{refused_not_passed, then_passed, answer_passed}
 use Rattle.mesh.specs.Mesh.{Mesh, count}
 use Rattle.mesh.specs.Rows.{adjacency_rows}
 use Rattle.mesh.proofs.Facts.{adjacency_facts}
+use Rattle.renumber.specs.Laws.{RenumberedFacts}
 use Rattle.renumber.specs.Renumber.{Call, RenumberOutcome, longest_length, call_rows, renumber_rows, apply_vertex_permutation}
 use Rattle.renumber.proofs.RenumberedMesh.{renumbered_count, renumbered_adjacency}
 use Rattle.renumber.proofs.Calls.{accepted_permutation, accepted_mesh}
-
--- a mesh that is left by a renumbering of n vertices
-pub record RenumberedFacts (n : ℕ) (m : Mesh) : Type 0 where
-  pub same_count : count m ≡ n
-  pub entries_below : (i : ℕ) → i < length m.entries → get_or m.entries i 0 < n
 
 passed_rows : (m : Mesh) (mark : Bool) (values : List Float) (call : Call) → (apply_vertex_permutation m mark values call).answered ≡ Ok tt → renumber_rows m values call ≡ Ok tt
 unfolding apply_vertex_permutation

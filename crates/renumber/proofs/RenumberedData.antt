@@ -1,7 +1,7 @@
--- Laws of renumbered data, with entries a vertex that row 7 lets pass. The length and the tail stay (`renumbered_data_length`, `renumbered_data_tail`), and what stands where say `renumbered_single` and `renumbered_pair`.
+-- Laws of renumbered data, with entries a vertex that row 7 lets pass. The length and the tail stay (`renumbered_data_length`, `renumbered_data_tail`; in either form that of one entry a vertex, `renumbered_data_single_tail`), and what stands where say `renumbered_single` and `renumbered_pair`.
 -- Nothing moves by the identity, and one renumbering after another is that by the composition. Assumes nothing.
-use Prim.Native.Nat.{ℕ, ◌+◌, ◌*◌, ◌/◌, ◌≤◌, ◌<◌}
-use native.Mathlib.Nat.{mul-le-mul_right, mul-one, mul-pos}
+use Prim.Native.Nat.{ℕ, ◌+◌, ◌-◌, ◌*◌, ◌/◌, ◌≤◌, ◌<◌}
+use native.Mathlib.Nat.{div-mul-le_self, mul-le-mul_right, mul-one, mul-pos}
 use native.Mathlib.Omega.{arith}
 use mathlib.Core.Path.{◌≡◌, refl, sym, ap, ap₂, ◌∙◌}
 use mathlib.Core.Bool.{Bool, true, false, ◌||◌}
@@ -10,6 +10,8 @@ use lib.Dec.{eqb}
 use lib.ListN.{length, get_or, drop}
 use lib.Ieee.{Float, nan}
 use borrow.Author.Tests.{eqb-true, eq-eqb}
+use Rattle.std.proofs.lemmas.List.{drop-drop}
+use Rattle.std.proofs.lemmas.Nat.{le-div}
 use Rattle.sequences.specs.Tabulate.{block}
 use Rattle.sequences.specs.Permutation.{at, IsPermutation, identity, compose, moved, moved_pairs}
 use Rattle.sequences.proofs.Tabulate.{length_block, block_at}
@@ -82,6 +84,20 @@ slab_compose {n} {p} {q} h k each fit slab = go (form_of n each fit)
     go (paired t e) = rw (slab_paired p each slab t, slab_paired q each (moved_pairs p slab nan) t, slab_paired (compose q p) each slab t) (moved_pairs_compose h k slab nan)
 
 -- ---- all slabs, and the tail
+-- where two lists agree from a place on, they do so from a later one
+drop_later : (from later : ℕ) (l r : List Float) → from ≤ later → drop from l ≡ drop from r → drop later l ≡ drop later r
+drop_later from later l r le e =
+    let whole : from + (later - from) ≡ later = omega arith in
+    ap (λ (k : ℕ). drop k l) (sym whole) ∙ sym (drop-drop (later - from) from l) ∙ ap (drop (later - from)) e ∙ drop-drop (later - from) from r ∙ ap (λ (k : ℕ). drop k r) whole
+
+-- so many places of whole slabs, of whatever width, are no more than those of slabs of one entry a vertex
+whole_places : (places n each : ℕ) → 1 ≤ n → places / (n * each) * (n * each) ≤ places / n * n
+whole_places places n each some =
+    let slabs : ℕ = places / (n * each) in
+    let swapped : slabs * each * n ≡ slabs * (n * each) = omega arith in
+    let fewer : slabs * each ≤ places / n = le-div (slabs * each) places n some (omega (arith, swapped, div-mul-le_self places (n * each))) in
+    omega (arith, swapped, mul-le-mul_right n fewer)
+
 module _ {n : ℕ} {q : List ℕ} (h : IsPermutation n q) (each : ℕ) (fit : entries_per_vertex_fit n each ≡ true) (values : List Float) where
   keeps : (slab : List Float) → length slab ≡ n * each → length (renumbered_slab q each slab) ≡ n * each
   keeps slab e = length_renumbered_slab h each fit slab
@@ -94,6 +110,10 @@ module _ {n : ℕ} {q : List ℕ} (h : IsPermutation n q) (each : ℕ) (fit : en
   unfolding renumbered_data
   renumbered_data_tail = slabs_tail (n * each) (renumbered_slab q each) values nan keeps
 
+  pub renumbered_data_single_tail : 1 ≤ n → drop (length values / n * n) (renumbered_data n q each values) ≡ drop (length values / n * n) values
+  renumbered_data_single_tail some =
+      drop_later (length values / (n * each) * (n * each)) (length values / n * n) (renumbered_data n q each values) values (whole_places (length values) n each some) renumbered_data_tail
+
   renumbered_data_at : (s k : ℕ) → s < length values / (n * each) → k < n * each
       → get_or (renumbered_data n q each values) (s * (n * each) + k) nan ≡ get_or (renumbered_slab q each (block (n * each) values nan s)) k nan
   unfolding renumbered_data
@@ -101,7 +121,7 @@ module _ {n : ℕ} {q : List ℕ} (h : IsPermutation n q) (each : ℕ) (fit : en
       sym (block_at (n * each) (renumbered_data n q each values) nan s k nan lk)
       ∙ ap (λ (l : List Float). get_or l k nan) (slab_of (n * each) (renumbered_slab q each) values nan keeps s ls)
 
--- "In each whole slab, place p(v) holds what v held"
+-- in each whole slab, place q(v) holds what v held
 pub renumbered_single : {n : ℕ} {q : List ℕ} → IsPermutation n q → (values : List Float) (s v : ℕ) → s < length values / n → v < n
     → get_or (renumbered_data n q 1 values) (s * n + at q v) nan ≡ get_or values (s * n + v) nan
 renumbered_single {n} {q} h values s v ls lv =
@@ -114,7 +134,7 @@ renumbered_single {n} {q} h values s v ls lv =
     ∙ block_at (n * 1) values nan s v nan (omega arith)
     ∙ ap (λ (w : ℕ). get_or values (s * w + v) nan) one
 
--- "in the second form, place p(v)·n + p(v') holds what v·n + v' held."
+-- in the second form, place q(v)·n + q(w) holds what v·n + w held
 pub renumbered_pair : {n : ℕ} {q : List ℕ} → IsPermutation n q → (values : List Float) (s v w : ℕ) → s < length values / (n * n) → v < n → w < n
     → get_or (renumbered_data n q n values) (s * (n * n) + (at q v * n + at q w)) nan ≡ get_or values (s * (n * n) + (v * n + w)) nan
 renumbered_pair {n} {q} h values s v w ls lv lw =

@@ -24,7 +24,7 @@ neighbours_from : (m : Mesh) (q : List ℕ) (i : ℕ) → i < count m → neighb
 unfolding neighbours renumbered_mesh
 neighbours_from m q i lt = concatenate_part (count m) (relabelled q (neighbours m)) i lt
 
--- "ascending order, repeats side by side, a property of every mesh that our calls produce, the renumbered one included" (W-208)
+-- every list ascends, repeats side by side
 pub renumbered_ascends : (m : Mesh) {q : List ℕ} → IsPermutation (count m) q → (i : ℕ) → i < count m → Nondecreasing (neighbours (renumbered_mesh q m) i)
 renumbered_ascends m {q} h i lt = rw (neighbours_from m q i lt) (relabelled_nondecreasing h (neighbours m) i)
 

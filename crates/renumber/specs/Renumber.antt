@@ -1,4 +1,4 @@
--- Renumbering: "by any permutation, which holds the new id at each old one, moves positions, lists and data and maps the entries" (document 01), and leaves each list ascending (W-208). Definitions only.
+-- Renumbering by any permutation, which holds the new id at each old one: positions, lists and data are moved, the entries taken through it, and each list is left ascending. Definitions only.
 use Rattle.std.specs.Prelude.{ℕ, ◌*◌, max, ◌≡◌, Bool, true, ◌||◌, cond, List, leb, eqb, length, Float, Ok, Err}
 use Rattle.std.specs.List.{list_all}
 use Rattle.std.specs.Float.{nan}
@@ -17,18 +17,18 @@ pub record Call : Type 0 where
   pub entries_per_vertex : ℕ
   pub scratch_lengths : List ℕ
 
--- Row 7 refuses "entries a vertex neither 1 nor the count".
+-- Row 7 refuses entries a vertex that are neither 1 nor the count.
 unfoldable pub entries_per_vertex_fit : ℕ → ℕ → Bool
 entries_per_vertex_fit n each = eqb each 1 || eqb each n
 
--- Row 8: "each scratch slice needs as many places as the longest list that the call takes or fills". Of mesh and data that list has so many:
+-- Row 8: each scratch slice has as many places as the longest list that the call takes or fills. Of mesh and data that list has so many:
 unfoldable pub longest_length : Mesh → List Float → ℕ
 longest_length m values = max (max (length m.positions) (length m.starts)) (max (length m.entries) (length values))
 
 unfoldable pub scratch_fits : ℕ → List ℕ → Bool
 scratch_fits places scratch_lengths = list_all (λ room. leb places room) scratch_lengths
 
--- Rows 6 to 8 of a call on n vertices, with the length of the longest list of mesh and data. Row 6 refuses "wrong length, or not a permutation of the ids".
+-- Rows 6 to 8 of a call on n vertices, with the length of the longest list of mesh and data. Row 6 refuses a slice of another length, or one that is no permutation of the ids.
 unfoldable pub call_rows : ℕ → ℕ → Call → Verdict
 call_rows n longest call =
     row (is_permutation n call.permutation) Permutation
@@ -43,11 +43,11 @@ renumbered_mesh permutation m = record {
   entries = concatenate (count m) (relabelled permutation (neighbours m));
 }
 
--- "Data has 1 or n (the count) entries a vertex; in the second form both indices move." One slab, of n or n·n places:
+-- Data has 1 entry a vertex or one for each pair; in the second form both indices move. One slab, of n or n·n places, n the count:
 unfoldable pub renumbered_slab : List ℕ → ℕ → List Float → List Float
 renumbered_slab permutation each slab = cond (eqb each 1) (moved permutation slab nan) (moved_pairs permutation slab nan)
 
--- Each whole slab; "A tail shorter than a slab (n, or n·n) is untouched".
+-- Each whole slab; a tail shorter than a slab stays as it is.
 unfoldable pub renumbered_data : ℕ → List ℕ → ℕ → List Float → List Float
 renumbered_data n permutation each values = map_slabs (n * each) (renumbered_slab permutation each) values nan
 
@@ -62,7 +62,7 @@ pub record RenumberOutcome : Type 0 where
 unfoldable pub renumber_rows : Mesh → List Float → Call → Verdict
 renumber_rows m values call = then (adjacency_rows m) (call_rows (count m) (longest_length m values) call)
 
--- "a lattice and an accepted renumbering set it" (W-208), the mark that the lists ascend; a refused call leaves it, as it leaves mesh and data.
+-- An accepted call sets the mark that the lists ascend; a refused one leaves it, as it leaves mesh and data.
 unfoldable pub apply_vertex_permutation : Mesh → Bool → List Float → Call → RenumberOutcome
 apply_vertex_permutation m mark values call =
     answer (renumber_rows m values call) (λ reason. record { answered = Err reason; mesh = m; mark = mark; values = values })

@@ -1,5 +1,5 @@
 // Arithmetic on doubles.
-use records::{Fault, Reader};
+use records::{Element, Fault, Reader};
 use std::cmp::Ordering;
 
 // a, b, c; a * b + c.
@@ -10,10 +10,15 @@ pub fn replay_mul_add(reader: &mut Reader) -> Result<(), Fault> {
     reader.expect(c_api::arithmetic::koshirga_mul_add(a, b, c))
 }
 
-// x; its root.
+// x; its root, which both calls give.
 pub fn replay_sqrt(reader: &mut Reader) -> Result<(), Fault> {
     let x = reader.take()?;
-    reader.expect(c_api::arithmetic::koshirga_sqrt(x))
+    let root = c_api::arithmetic::koshirga_sqrt(x);
+    let by_digits = c_api::arithmetic::koshirga_sqrt_by_digits(x);
+    if by_digits.word() != root.word() {
+        return Err(Fault::Different);
+    }
+    reader.expect(root)
 }
 
 // x; its floor, its ceiling, x as a signed 64-bit number in two's complement, and what became of it there.

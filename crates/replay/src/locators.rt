@@ -4,6 +4,7 @@ use crate::report::Tally;
 use crate::slices::{Grid, GridSlices, LatticeSlices, Table, expect_built};
 use crate::{queries, report};
 use records::{Fault, Reader};
+use std::io;
 use std::rt::Files;
 
 // A direction; the answers of both locators.
@@ -69,6 +70,6 @@ fn replay_records(text: &[u8]) -> Tally {
     }
 }
 
-pub fn tally(files: &impl Files, name: &str) -> Tally {
+pub fn tally(files: &impl Files, name: &str) -> io::Result<Tally> {
     Tally::of_file(files, name, replay_records)
 }

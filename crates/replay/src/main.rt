@@ -130,7 +130,7 @@ fn replay(rt: &(impl Files + Print), file: File) -> io::Result<()> {
     let kind = file.kind;
     let tally = Tally::of_file(rt, file.name, |text| {
         Tally::default().count_lines(text, |reader| replay_record(kind, reader))
-    });
+    })?;
     report::print_differences(rt, file.name, tally)
 }
 
@@ -151,7 +151,7 @@ fn replay_numbered(reader: &mut Reader) -> Result<(), Fault> {
 fn replay_wrong(rt: &(impl Files + Print), name: &str) -> io::Result<()> {
     let tally = Tally::of_file_within::<16384, _>(rt, name, |text| {
         Tally::default().count_lines(text, replay_numbered)
-    });
+    })?;
     report::print_noticed(rt, name, tally)
 }
 
@@ -160,9 +160,9 @@ fn main(rt: HostRuntime) -> io::Result<()> {
         replay(&rt, *file)?;
     }
     for name in &LOCATORS {
-        report::print_differences(&rt, name, locators::tally(&rt, name))?;
+        report::print_differences(&rt, name, locators::tally(&rt, name)?)?;
     }
     replay_wrong(&rt, "wrong_records")?;
     let name = "wrong_locators";
-    report::print_noticed(&rt, name, locators::tally(&rt, name))
+    report::print_noticed(&rt, name, locators::tally(&rt, name)?)
 }

@@ -1,7 +1,9 @@
 // Counts of a file's records, and the line that the file gets.
 ghost use Rattle.std.specs.Prelude.{◌<◌, ◌^◌};
 
+use reading::read_full;
 use records::{Fault, Reader};
+use std::fs::File;
 use std::io;
 use std::rt::Files;
 
@@ -15,22 +17,27 @@ pub struct Tally {
 }
 
 impl Tally {
-    // Of a file's records. Room for its text is a parameter: a proof about a number as large as that below would list as many bytes.
+    // Of a file's records; an error where the file is not read whole, and so where it leaves no place of the room.
+    // Room for its text is a parameter: a proof about a number as large as that below would list as many bytes.
     // `IsAlwaysCallable`, here and below: a function that calls a closure has to ask for it.
     pub fn of_file_within<const ROOM: usize, F: FnOnce(&[u8]) -> Tally>(
         files: &impl Files,
         name: &str,
         replay: F,
-    ) -> Tally
+    ) -> io::Result<Tally>
         requires room { ROOM < 2 ^ 32 }
         requires callable { F.IsAlwaysCallable replay }
     {
         let mut text = [0u8; ROOM];
-        let size = reading::read_file(files, name, &mut text);
-        replay(&text[..size])
+        let size = read_full(&mut File::open(files, name)?, &mut text).whole_size()?;
+        Ok(replay(&text[..size]))
     }
 
-    pub fn of_file<F: FnOnce(&[u8]) -> Tally>(files: &impl Files, name: &str, replay: F) -> Tally
+    pub fn of_file<F: FnOnce(&[u8]) -> Tally>(
+        files: &impl Files,
+        name: &str,
+        replay: F,
+    ) -> io::Result<Tally>
         requires { F.IsAlwaysCallable replay }
     {
         Self::of_file_within::<524288, F>(files, name, replay)

@@ -1,9 +1,9 @@
--- `square_root_nearest`: no value of the format lies nearer to √x than the root that `square_root` gives, in either format. `square_root_finite`: that root is finite. Assumes nothing.
+-- `square_root_nearest`: no value of the format lies nearer to √x than the root that `square_root` gives, in either format. `square_root_finite`: that root is finite; `square_root_fits`: it is a value of the format. Assumes nothing.
 use Rattle.std.proofs.Common.{◌≡◌, ℕ, zero, suc, ◌+◌, ◌-◌, ◌*◌, ◌/◌, ◌%◌, ◌^◌, ◌<◌, ◌≤◌, Bool, true, false, cond, ◌&&◌, T, eqb, ltb, leb, ◌⊎◌, ℤ, pos, sym, refl, ap, ◌∙◌, subst, inl, inr, true≢false, zero-le, le_trans, le_of_eq, lt_of_lt_of_le, lt_of_le_of_lt, le_of_lt, lt_irrefl, mul-le-mul_right, zero-lt-suc, mul_assoc, mul_comm, add-mul, mul-le-mul, lt_of_mul-lt-mul_right, mul-le-mul_left, mul-lt-mul_of_pos_right, mul-pos, one-mul, pow-suc, zero-mul, mul_right_comm, le_of_mul-le-mul_right, mul-div_cancel, mul_left_comm, arith, lit≤, eqb→eq, ltb→lt, lt→ltb, pow_pos, pow_mono, pow-add}
 use native.Mathlib.Nat.{mul-mul-mul_comm, mul-div-mul_right}
 use lib.Ieee.{Float, nan, inf, fin, Format, binary32, binary64, prec, emax, low, size, up, down, below as beneath, lt, le, fits}
 use lib.Ieee.Digits.{size-lt}
-use lib.Ieee.Fits.{and_r, two, two-le_pos, up_pos, down_pos}
+use lib.Ieee.Fits.{round-fits, and_r, two, two-le_pos, up_pos, down_pos}
 use lib.Ieee.Exact.{HasValue}
 use lib.Ieee.Order.{drop, kept}
 use lib.Ieee.Scale.{grid, finite}
@@ -351,6 +351,16 @@ square_root_finite f (inf s) t u z = absurd u
 square_root_finite f (fin s zero e) t u z = tt
 square_root_finite f (fin false (suc m) e) t u z = positive-finite f (fin false (suc m) e) t (lt→ltb 0 (suc m) (zero-lt-suc m))
 square_root_finite f (fin true (suc m) e) t u z = absurd (no_negative m e z)
+
+-- The root of a value of the format is one.
+pub square_root_fits : (f : Format) (x : Float) → T (fits f x) → T (fits f (square_root f x))
+unfolding square_root scaled_root fits
+square_root_fits f nan t = tt
+square_root_fits f (inf true) t = tt
+square_root_fits f (inf false) t = tt
+square_root_fits f (fin s zero e) t = t
+square_root_fits f (fin true (suc m) e) t = tt
+square_root_fits f (fin false (suc m) e) t = round-fits f false _ _
 
 -- For every finite value x of the format from 0 up with the root q, and every finite value v of the format from 0 up: v < q gives (v + q)² ≤ 4x, and q < v gives 4x ≤ (v + q)².
 -- So no value of the format lies nearer to √x than q.

@@ -1,15 +1,19 @@
 -- A significand of 53 digits whose middles to the next ones lie on both sides of a root: it is the root's, rounded to nearest (IEEE 754-2019, 4.3.1). Assumes nothing.
-use Rattle.std.proofs.Common.{◌≡◌, ℕ, ◌+◌, ◌-◌, ◌*◌, ◌/◌, ◌%◌, ◌^◌, ◌<◌, ◌≤◌, Bool, true, false, not, ◌&&◌, T, ltb, inl, inr, true≢false, sym, ap, ◌∙◌, arith, ltb-true, ltb-false}
+use Rattle.std.proofs.Common.{◌≡◌, ℕ, zero, suc, ◌+◌, ◌-◌, ◌*◌, ◌/◌, ◌%◌, ◌^◌, ◌<◌, ◌≤◌, Bool, true, false, not, ◌&&◌, T, ltb, inl, inr, true≢false, sym, ap, ◌∙◌, subst, mul-le-mul_right, lt_of_not-le, arith, ltb-true, ltb-false}
+use Rattle.std.specs.Prelude.{◌↔◌, IsTrue}
 use Prim.Native.Nat.{Ordering}
-use lib.Ieee.{Float, binary64, nearest, fits, of_bits, to_bits}
-use lib.Ieee.Bits.{of_bits-to_bits}
+use lib.Ieee.{Float, binary64, low, nearest, size, fits, of_bits, to_bits, is_nan}
+use lib.Ieee.Bits.{of_bits-to_bits, to_bits-of_bits}
 use lib.Ieee.Nearest.{closest}
+use Rattle.std.proofs.lemmas.Bool.{lt-ltb, le-ltb}
+use Rattle.binary64.proofs.NotNan.{round_not_nan}
+use Rattle.binary64.proofs.Tests.{Tested, tested}
 use Rattle.rounding.proofs.Compare.{compare_unique}
 use Rattle.rounding.proofs.RoundWord.{normal_pattern}
-use Rattle.root.specs.Root.{scaled_root}
-use Rattle.root.proofs.IntegerRoot.{double_square, square_of_sum}
-use Rattle.root.proofs.StickyRoot.{full_significand, significand_lt, word_rounds}
-use Rattle.binary64.proofs.Tests.{Tested, tested}
+use Rattle.root.specs.Root.{integer_root, root_in_halves, scaled_root}
+use Rattle.root.proofs.IntegerRoot.{double_square, square_of_sum, integer_root_lem}
+use Rattle.root.proofs.StickyRoot.{word_place, full_significand, significand_lt, word_rounds}
+use Rattle.root.specs.Places.{squared_place, significand_place, root_zeros, significand_zeros}
 
 -- ---- the nearest whole number, by what is left of 2048
 closest_below : (n k : ℕ) → n / 2048 ≡ k → n % 2048 * 2 < 2048 → closest n 2048 ≡ k
@@ -64,33 +68,104 @@ digits_of radicand k p lo hi = go (tested (k * k) radicand)
 -- ---- the root of word * 4 ^ half / 2 ^ 1138, and the significand k at its place
 -- the word in squared units of that place
 abbrev pub scaled_word : ℕ → ℕ
-scaled_word word = word * 2 ^ 42
+scaled_word word = word * 2 ^ significand_zeros
 
 module _ (word half k : ℕ) (word_least : 2 ^ 62 ≤ word) (word_below : word < 2 ^ 64) (half_below : half < 1500) where
-  from_digits : Digits (scaled_word word) k → of_bits binary64 ((half + 484) * 2 ^ 52 + k) ≡ scaled_root binary64 (word * 2 ^ (2 * half + 1010))
+  from_digits : Digits (scaled_word word) k → of_bits binary64 ((half + significand_place) * 2 ^ 52 + k) ≡ scaled_root binary64 (word * 2 ^ (2 * half + squared_place))
   from_digits d =
       let s = 1 - (1 - d.left) in
-      let whole : d.digits * d.digits + d.left ≡ word * 2 ^ 44 = omega (arith, d.whole) in
+      let whole : d.digits * d.digits + d.left ≡ word * 2 ^ root_zeros = omega (arith, d.whole) in
       let top = full_significand d.digits d.left word d.small whole word_least in
       let below = significand_lt d.digits d.left word whole word_below in
-      ap (of_bits binary64) (let z : (half + 484) * 2 ^ 52 + k ≡ 0 + ((half + 484) * 2 ^ 52 + closest (d.digits * 2 ^ 10 + s) 2048) = omega (arith, d.rounds) in z)
-      ∙ normal_pattern binary64 false (d.digits * 2 ^ 10 + s) (half + 1739) 1266 (omega arith) (omega arith) (half + 484) (omega arith) (omega arith)
+      ap (of_bits binary64) (let z : (half + significand_place) * 2 ^ 52 + k ≡ 0 + ((half + significand_place) * 2 ^ 52 + closest (d.digits * 2 ^ 10 + s) 2048) = omega (arith, d.rounds) in z)
+      ∙ normal_pattern binary64 false (d.digits * 2 ^ 10 + s) (half + word_place) 1266 (omega arith) (omega arith) (half + significand_place) (omega arith) (omega arith)
       ∙ word_rounds d.digits d.left word half s d.small whole word_least (omega arith) (λ z. omega arith) (λ z. omega arith)
 
-  pub rounded_root : 0 < k → k * k < scaled_word word + k → scaled_word word ≤ k * k + k → of_bits binary64 ((half + 484) * 2 ^ 52 + k) ≡ scaled_root binary64 (word * 2 ^ (2 * half + 1010))
+  pub rounded_root : 0 < k → k * k < scaled_word word + k → scaled_word word ≤ k * k + k → of_bits binary64 ((half + significand_place) * 2 ^ 52 + k) ≡ scaled_root binary64 (word * 2 ^ (2 * half + squared_place))
   rounded_root some lo hi = from_digits (digits_of (scaled_word word) k some lo hi)
 
--- ---- as the program has it: the candidate's bits are those of the root's place and of a significand that passes the test
-pub candidate_accepted : (word half : ℕ) (candidate : Float) → 2 ^ 62 ≤ word → word < 2 ^ 64 → half < 1500 → T (fits binary64 candidate)
-    → to_bits binary64 candidate ≡ (half + 484) * 2 ^ 52 + (2 ^ 52 + to_bits binary64 candidate % 2 ^ 52)
-    → (2 ^ 52 + to_bits binary64 candidate % 2 ^ 52) * (2 ^ 52 + to_bits binary64 candidate % 2 ^ 52) < scaled_word word + (2 ^ 52 + to_bits binary64 candidate % 2 ^ 52)
-    → scaled_word word ≤ (2 ^ 52 + to_bits binary64 candidate % 2 ^ 52) * (2 ^ 52 + to_bits binary64 candidate % 2 ^ 52) + (2 ^ 52 + to_bits binary64 candidate % 2 ^ 52)
-    → candidate ≡ scaled_root binary64 (word * 2 ^ (2 * half + 1010))
-candidate_accepted word half candidate least below short held place lo hi =
-    sym (of_bits-to_bits binary64 candidate held) ∙ ap (of_bits binary64) place
-    ∙ rounded_root word half (2 ^ 52 + to_bits binary64 candidate % 2 ^ 52) least below short (omega arith) lo hi
+-- ---- the significand of a root: the whole number that is nearest to it
+record NearestWhole (n : ℕ) : Type 0 where
+  pub whole : ℕ
+  pub short : whole * whole < n + whole
+  pub reaches : n ≤ whole * whole + whole
 
-pub both_tests : (a b : Bool) (square above below value : ℕ) → a ≡ ltb square above → b ≡ ltb below value → (a && not b) ≡ true → (square < above) × (value ≤ below)
-both_tests true false square above below value f g h = (ltb-true square above (sym f), ltb-false below value (sym g))
-both_tests true true square above below value f g h = absurd (true≢false (sym h))
-both_tests false b square above below value f g h = absurd (true≢false (sym h))
+nearest_whole : (n : ℕ) → 0 < n → NearestWhole n
+nearest_whole n some = go (integer_root (size n) n) (integer_root_lem n).0 (integer_root_lem n).1 (tested n (integer_root (size n) n * integer_root (size n) n + integer_root (size n) n))
+  where
+    go : (r : ℕ) → r * r ≤ n → n < (r + 1) * (r + 1) → Tested n (r * r + r) → NearestWhole n
+    go zero least most t = absurd (let s = square_of_sum 0 1 in let z : ⊥ = omega arith in z)
+    go (suc r) least most (inl (below, t)) = record { whole = suc r; short = omega arith; reaches = below }
+    go (suc r) least most (inr (above, t)) = let s = square_of_sum (suc r) 1 in record { whole = suc r + 1; short = omega arith; reaches = omega arith }
+
+-- a rounded root is a number
+pub root_number : (n : ℕ) → is_nan (scaled_root binary64 n) ≡ false
+unfolding scaled_root
+root_number n = round_not_nan binary64 false (root_in_halves n (integer_root (size n) n)) (2 ^ (low binary64 + 1))
+
+-- ---- as the program has it: the test of a candidate's bits, of which the last 52 are those of its significand
+abbrev significand_of : ℕ → ℕ
+significand_of bits = 2 ^ 52 + bits % 2 ^ 52
+
+pub record Passes (word half bits : ℕ) : Type 0 where
+  pub place : bits ≡ (half + significand_place) * 2 ^ 52 + significand_of bits
+  pub short : significand_of bits * significand_of bits < scaled_word word + significand_of bits
+  pub reaches : scaled_word word ≤ significand_of bits * significand_of bits + significand_of bits
+
+module _ (word half : ℕ) (least : 2 ^ 62 ≤ word) (most : word ≤ 2 ^ 64 - 2 ^ 11) (short : half ≤ 1050) where
+  -- what passes is the rounded root
+  pub candidate_accepted : (candidate : Float) → T (fits binary64 candidate) → Passes word half (to_bits binary64 candidate) → candidate ≡ scaled_root binary64 (word * 2 ^ (2 * half + squared_place))
+  candidate_accepted candidate held p =
+      sym (of_bits-to_bits binary64 candidate held) ∙ ap (of_bits binary64) p.place
+      ∙ rounded_root word half (significand_of (to_bits binary64 candidate)) least (omega arith) (omega arith) (omega arith) p.short p.reaches
+
+  significand : NearestWhole (scaled_word word)
+  significand = nearest_whole (scaled_word word) (omega arith)
+
+  pattern : ℕ
+  pattern = (half + significand_place) * 2 ^ 52 + significand.whole
+
+  in_binade : (2 ^ 52 ≤ significand.whole) × (significand.whole < 2 ^ 53)
+  in_binade = bounds significand.whole significand.short significand.reaches
+    where
+      bounds : (k : ℕ) → k * k < scaled_word word + k → scaled_word word ≤ k * k + k → (2 ^ 52 ≤ k) × (k < 2 ^ 53)
+      bounds k lo hi = (
+        lt_of_not-le {n = k} {m = 2 ^ 52 - 1} (λ (l : k ≤ 2 ^ 52 - 1). let s = mul-le-mul_right k l in let z : ⊥ = omega arith in z),
+        lt_of_not-le (λ (g : 2 ^ 53 ≤ k). let s = mul-le-mul_right k g in let z : ⊥ = omega arith in z),
+      )
+
+  pattern_rounds : of_bits binary64 pattern ≡ scaled_root binary64 (word * 2 ^ (2 * half + squared_place))
+  unfolding pattern
+  pattern_rounds = let b = in_binade in rounded_root word half significand.whole least (omega arith) (omega arith) (omega arith) significand.short significand.reaches
+
+  root_bits : to_bits binary64 (scaled_root binary64 (word * 2 ^ (2 * half + squared_place))) ≡ pattern
+  unfolding pattern
+  root_bits =
+      let b = in_binade in
+      ap (to_bits binary64) (sym pattern_rounds)
+      ∙ to_bits-of_bits binary64 pattern (omega arith) (subst (λ (b : Bool). T (not b)) (sym (ap is_nan pattern_rounds ∙ root_number (word * 2 ^ (2 * half + squared_place)))) tt)
+
+  -- and it passes
+  pub root_accepted : (candidate : Float) → candidate ≡ scaled_root binary64 (word * 2 ^ (2 * half + squared_place)) → Passes word half (to_bits binary64 candidate)
+  unfolding pattern
+  root_accepted candidate e = subst (λ (bits : ℕ). Passes word half bits) (sym (ap (to_bits binary64) e ∙ root_bits)) (passes significand.whole in_binade.0 in_binade.1 significand.short significand.reaches)
+    where
+      passes : (k : ℕ) → 2 ^ 52 ≤ k → k < 2 ^ 53 → k * k < scaled_word word + k → scaled_word word ≤ k * k + k → Passes word half ((half + significand_place) * 2 ^ 52 + k)
+      passes k from below lo hi =
+          let bits = (half + significand_place) * 2 ^ 52 + k in
+          let same : k ≡ significand_of bits = omega arith in record {
+            place = omega arith;
+            short = subst (λ (s : ℕ). s * s < scaled_word word + s) same lo;
+            reaches = subst (λ (s : ℕ). scaled_word word ≤ s * s + s) same hi;
+          }
+
+pub both_tests : (a b : Bool) (square above below value : ℕ) → a ≡ ltb square above → b ≡ ltb below value → IsTrue (a && not b) ↔ ((square < above) × (value ≤ below))
+both_tests a b square above below value f g = (by_tests a b f g, of_tests)
+  where
+    by_tests : (a b : Bool) → a ≡ ltb square above → b ≡ ltb below value → IsTrue (a && not b) → (square < above) × (value ≤ below)
+    by_tests true false f g t = (ltb-true square above (sym f), ltb-false below value (sym g))
+    by_tests true true f g t = absurd (true≢false (sym t))
+    by_tests false b f g t = absurd (true≢false (sym t))
+
+    of_tests : (square < above) × (value ≤ below) → IsTrue (a && not b)
+    of_tests (lo, hi) = ap (λ (z : Bool). z && not b) (f ∙ lt-ltb square above lo) ∙ ap not (g ∙ le-ltb below value hi)

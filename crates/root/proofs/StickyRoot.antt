@@ -1,16 +1,26 @@
 -- The digits of a root, with a sticky bit where a remainder is left, round as the root itself. Assumes nothing.
-use Rattle.std.proofs.Common.{◌≡◌, ℕ, ◌+◌, ◌*◌, ◌/◌, ◌%◌, ◌^◌, ◌<◌, ◌≤◌, Bool, true, false, cond, T, eqb, sym, refl, ap, ◌∙◌, le_trans, le_of_eq, lt_of_lt_of_le, le-add_right, lt_of_le_of_lt, add-zero, mul-le-mul_right, mul_assoc, mul_comm, add-mul, mul-lt-mul_of_pos_right, mul-pos, div-add-mod', mul-add, mul-div_cancel, mul_left_comm, arith, eqb→eq, pow_pos, pow-add}
+use Rattle.std.proofs.Common.{◌≡◌, ℕ, ◌+◌, ◌-◌, ◌*◌, ◌/◌, ◌%◌, ◌^◌, ◌<◌, ◌≤◌, Bool, true, false, cond, T, eqb, sym, refl, ap, ◌∙◌, le_trans, le_of_eq, lt_of_lt_of_le, mod-eq_of_lt, le-add_right, lt_of_le_of_lt, add-zero, mul-le-mul_right, mul_assoc, mul_comm, add-mul, mul-lt-mul_of_pos_right, mul-pos, div-add-mod', mul-add, mul-div_cancel, mul_left_comm, arith, eqb→eq, pow_pos, pow-add}
 use native.Mathlib.Nat.{eq_of_mul-eq-mul_right, mul-mul-mul_comm, mul-mod_left, div-eq_of_lt-le, div-div-eq-div-mul, mul-div-mul_right}
-use lib.Pow.{high, low}
+use lib.Pow.{high, low, shl_lt}
+use lib.Count.{count_leading_zeros}
 use lib.Ieee.{binary64, size, round}
 use lib.Ieee.Bits.{is_true}
 use lib.Ieee.Fits.{eq→eqb}
 use Rattle.words.specs.Sticky.{StickyEquivalent}
+use Rattle.words.proofs.LeadingZeros.{leading_zeros_top}
 use Rattle.words.proofs.StickyShift.{multiple_split, sticky_rescale}
 use Rattle.rounding.specs.Scale.{high_word_scale}
-use Rattle.rounding.proofs.RoundSticky.{round_sticky}
+use Rattle.rounding.proofs.RoundSticky.{round_sticky, pow_lt_back}
 use Rattle.root.specs.Root.{integer_root, root_in_halves, scaled_root}
 use Rattle.root.proofs.IntegerRoot.{square_lt, square_lt_back, integer_root_lem}
+use Rattle.root.specs.Places.{squared_place, root_zeros, root_place}
+
+-- the root's place once ten bits are behind its digits, and that of a digit's half: the radicand's, halved
+abbrev pub word_place : ℕ
+word_place = root_place - 10
+
+abbrev half_place : ℕ
+half_place = (squared_place - root_zeros) / 2
 
 next_square : (q m u : ℕ) → m ≤ 2 * q → q * q + m ≡ u → u < (q + 1) * (q + 1)
 next_square q m u h e = let s : (q + 1) * (q + 1) ≡ q * q + q * 1 + (1 * q + 1 * 1) = add-mul q 1 (q + 1) ∙ (λ i. mul-add q q 1 i + mul-add 1 q 1 i) in omega arith
@@ -103,11 +113,11 @@ module _ (q m u A : ℕ) (le : m ≤ 2 * q) (is : q * q + m ≡ u) (A_pos : 0 < 
       unscaled : (x D : ℕ) → 0 < D → x * 2 ^ 10 % (D * 2 ^ 10) ≡ 0 → x % D ≡ 0
       unscaled x D d h = ap (λ (y : ℕ). y % D) (sym (mul-div_cancel x (pow_pos 10))) ∙ (multiple_split (x * 2 ^ 10) D (2 ^ 10) d (pow_pos 10) h).0
 
-  root_rounds : (h s : ℕ) → A ≡ 2 ^ (h + 483) → 2 ^ 53 ≤ q → s < 2 ^ 10 → (m ≡ 0 → s ≡ 0) → (s ≡ 0 → m ≡ 0)
-      → round binary64 false ((q * 2 ^ 10 + s) * 2 ^ (h + 1739)) (2 ^ high_word_scale) ≡ scaled_root binary64 radicand
+  root_rounds : (h s : ℕ) → A ≡ 2 ^ (h + half_place) → 2 ^ 53 ≤ q → s < 2 ^ 10 → (m ≡ 0 → s ≡ 0) → (s ≡ 0 → m ≡ 0)
+      → round binary64 false ((q * 2 ^ 10 + s) * 2 ^ (h + word_place)) (2 ^ high_word_scale) ≡ scaled_root binary64 radicand
   unfolding scaled_root whole_root in_halves
   root_rounds h s a big l f g =
-      let e = h + 1739 in
+      let e = h + word_place in
       let w = q * 2 ^ 10 + s in
       let c : in_halves * 2 ^ 10 * (2 ^ 1075 * 2 ^ (10 + e)) ≡ in_halves * 2 ^ 2340 * (2 * A * 2 ^ 10) =
       mul_assoc in_halves (2 ^ 10) (2 ^ 1075 * 2 ^ (10 + e)) ∙ ap (λ (x : ℕ). in_halves * x) powers ∙ sym (mul_assoc in_halves (2 ^ 2340) (2 * A * 2 ^ 10)) in
@@ -125,27 +135,65 @@ module _ (q m u A : ℕ) (le : m ≤ 2 * q) (is : q * q + m ≡ u) (A_pos : 0 < 
       right : (c t J K e : ℕ) → c * (t * (J * K) * e) ≡ J * (c * (t * K * e))
       right c t J K e = simp (mul_assoc, mul_left_comm)
 
-      powers : 2 ^ 10 * (2 ^ 1075 * 2 ^ (10 + (h + 1739))) ≡ 2 ^ 2340 * (2 * A * 2 ^ 10)
-      powers = ap (λ (x : ℕ). 2 ^ 10 * (2 ^ 1075 * x)) (ap (λ (x : ℕ). 2 ^ x) (let k : 10 + (h + 1739) ≡ h + 1749 = omega arith in k) ∙ pow-add 2 h 1749) ∙ left (2 ^ 10) (2 ^ 1075) (2 ^ h) (2 ^ 1749)
-          ∙ sym (ap (λ (x : ℕ). 2 ^ 2340 * (2 * x * 2 ^ 10)) (a ∙ pow-add 2 h 483) ∙ right (2 ^ 2340) 2 (2 ^ h) (2 ^ 483) (2 ^ 10))
+      powers : 2 ^ 10 * (2 ^ 1075 * 2 ^ (10 + (h + word_place))) ≡ 2 ^ 2340 * (2 * A * 2 ^ 10)
+      powers = ap (λ (x : ℕ). 2 ^ 10 * (2 ^ 1075 * x)) (ap (λ (x : ℕ). 2 ^ x) (let k : 10 + (h + word_place) ≡ h + root_place = omega arith in k) ∙ pow-add 2 h root_place) ∙ left (2 ^ 10) (2 ^ 1075) (2 ^ h) (2 ^ root_place)
+          ∙ sym (ap (λ (x : ℕ). 2 ^ 2340 * (2 * x * 2 ^ 10)) (a ∙ pow-add 2 h half_place) ∙ right (2 ^ 2340) 2 (2 ^ h) (2 ^ half_place) (2 ^ 10))
 
--- ---- as the program has it: 54 digits are found of the root of w * 2 ^ 44
-pub full_significand : (q m w : ℕ) → m ≤ 2 * q → q * q + m ≡ w * 2 ^ 44 → 2 ^ 62 ≤ w → 2 ^ 53 ≤ q
+-- ---- as the program has it: 54 digits are found of the root of w * 2 ^ root_zeros
+pub full_significand : (q m w : ℕ) → m ≤ 2 * q → q * q + m ≡ w * 2 ^ root_zeros → 2 ^ 62 ≤ w → 2 ^ 53 ≤ q
 full_significand q m w h e l =
-    let a : 2 ^ 53 < q + 1 = square_lt_back (2 ^ 53) (q + 1) (lt_of_le_of_lt (mul-le-mul_right (2 ^ 44) l) (next_square q m (w * 2 ^ 44) h e)) in
+    let a : 2 ^ 53 < q + 1 = square_lt_back (2 ^ 53) (q + 1) (lt_of_le_of_lt (mul-le-mul_right (2 ^ root_zeros) l) (next_square q m (w * 2 ^ root_zeros) h e)) in
     omega arith
 
-pub significand_lt : (q m w : ℕ) → q * q + m ≡ w * 2 ^ 44 → w < 2 ^ 64 → q < 2 ^ 54
+pub significand_lt : (q m w : ℕ) → q * q + m ≡ w * 2 ^ root_zeros → w < 2 ^ 64 → q < 2 ^ 54
 significand_lt q m w e l = square_lt_back q (2 ^ 54) (let k : q * q < 2 ^ 54 * 2 ^ 54 = omega arith in k)
 
 -- s is the sticky bit of the remainder m
-pub word_rounds : (q m w h s : ℕ) → m ≤ 2 * q → q * q + m ≡ w * 2 ^ 44 → 2 ^ 62 ≤ w → s ≤ 1 → (m ≡ 0 → s ≡ 0) → (s ≡ 0 → m ≡ 0)
-    → round binary64 false ((q * 2 ^ 10 + s) * 2 ^ (h + 1739)) (2 ^ high_word_scale) ≡ scaled_root binary64 (w * 2 ^ (2 * h + 1010))
+pub word_rounds : (q m w h s : ℕ) → m ≤ 2 * q → q * q + m ≡ w * 2 ^ root_zeros → 2 ^ 62 ≤ w → s ≤ 1 → (m ≡ 0 → s ≡ 0) → (s ≡ 0 → m ≡ 0)
+    → round binary64 false ((q * 2 ^ 10 + s) * 2 ^ (h + word_place)) (2 ^ high_word_scale) ≡ scaled_root binary64 (w * 2 ^ (2 * h + squared_place))
 unfolding radicand
 word_rounds q m w h s le e l short none some =
-    root_rounds q m (w * 2 ^ 44) (2 ^ (h + 483)) le e (pow_pos (h + 483)) h s refl (full_significand q m w le e l) (omega (arith, short)) none some ∙ ap (scaled_root binary64) scaled
+    root_rounds q m (w * 2 ^ root_zeros) (2 ^ (h + half_place)) le e (pow_pos (h + half_place)) h s refl (full_significand q m w le e l) (omega (arith, short)) none some ∙ ap (scaled_root binary64) scaled
   where
-    scaled : w * 2 ^ 44 * (2 ^ (h + 483) * 2 ^ (h + 483)) ≡ w * 2 ^ (2 * h + 1010)
+    scaled : w * 2 ^ root_zeros * (2 ^ (h + half_place) * 2 ^ (h + half_place)) ≡ w * 2 ^ (2 * h + squared_place)
     scaled =
-        mul_assoc w (2 ^ 44) (2 ^ (h + 483) * 2 ^ (h + 483))
-        ∙ ap (λ (x : ℕ). w * x) (ap (λ (x : ℕ). 2 ^ 44 * x) (sym (pow-add 2 (h + 483) (h + 483))) ∙ sym (pow-add 2 44 (h + 483 + (h + 483))) ∙ ap (λ (x : ℕ). 2 ^ x) (let k : 44 + (h + 483 + (h + 483)) ≡ 2 * h + 1010 = omega arith in k))
+        mul_assoc w (2 ^ root_zeros) (2 ^ (h + half_place) * 2 ^ (h + half_place))
+        ∙ ap (λ (x : ℕ). w * x) (ap (λ (x : ℕ). 2 ^ root_zeros * x) (sym (pow-add 2 (h + half_place) (h + half_place))) ∙ sym (pow-add 2 root_zeros (h + half_place + (h + half_place))) ∙ ap (λ (x : ℕ). 2 ^ x) (let k : root_zeros + (h + half_place + (h + half_place)) ≡ 2 * h + squared_place = omega arith in k))
+
+-- ---- brought to the top bit of a word by the count of its leading zeros: 54 digits leave ten
+zeros_of_root : (q : ℕ) → 2 ^ 53 ≤ q → q < 2 ^ 54 → count_leading_zeros 64 q ≡ 10
+zeros_of_root q h l =
+    let z = count_leading_zeros 64 q in
+    let t = leading_zeros_top q (omega arith) (omega arith) in
+    let at_least : 63 < 54 + z = pow_lt_back 63 (54 + z) (lt_of_le_of_lt t.top (shl_lt 54 z l)) in
+    let at_most : 53 + z < 64 = pow_lt_back (53 + z) 64 (lt_of_le_of_lt (le_trans (le_of_eq (pow-add 2 53 z)) (mul-le-mul_right (2 ^ z) h)) t.fits) in
+    omega arith
+
+module _ (q m w : ℕ) (le : m ≤ 2 * q) (e : q * q + m ≡ w * 2 ^ root_zeros) (least : 2 ^ 62 ≤ w) (below : w < 2 ^ 64) where
+  zeros : ℕ
+  zeros = count_leading_zeros 64 q
+
+  ten : zeros ≡ 10
+  unfolding zeros
+  ten = zeros_of_root q (full_significand q m w le e least) (significand_lt q m w e below)
+
+  shifted : q * 2 ^ zeros % 2 ^ 64 ≡ q * 2 ^ 10
+  shifted =
+      let l = significand_lt q m w e below in
+      ap (λ (z : ℕ). q * 2 ^ z % 2 ^ 64) ten ∙ mod-eq_of_lt (let k : q * 2 ^ 10 < 2 ^ 64 = omega arith in k)
+
+  pub word_below : (s : ℕ) → s ≤ 1 → q * 2 ^ count_leading_zeros 64 q % 2 ^ 64 + s < 2 ^ 64
+  unfolding zeros
+  word_below s short = let l = significand_lt q m w e below in let k = shifted in omega arith
+
+  pub word_top : (s : ℕ) → 2 ^ 63 ≤ q * 2 ^ count_leading_zeros 64 q % 2 ^ 64 + s
+  unfolding zeros
+  word_top s = let l = full_significand q m w le e least in let k = shifted in omega arith
+
+  pub root_rounds_at_top : (h s : ℕ) → s ≤ 1 → (m ≡ 0 → s ≡ 0) → (s ≡ 0 → m ≡ 0)
+      → round binary64 false ((q * 2 ^ count_leading_zeros 64 q % 2 ^ 64 + s) * 2 ^ (h + root_place - count_leading_zeros 64 q)) (2 ^ high_word_scale) ≡ scaled_root binary64 (w * 2 ^ (2 * h + squared_place))
+  unfolding zeros
+  root_rounds_at_top h s short none some =
+      ap (λ (x : ℕ). round binary64 false ((x + s) * 2 ^ (h + root_place - zeros)) (2 ^ high_word_scale)) shifted
+      ∙ ap (λ (x : ℕ). round binary64 false ((q * 2 ^ 10 + s) * 2 ^ x) (2 ^ high_word_scale)) (let k = ten in let p : h + root_place - zeros ≡ h + word_place = omega arith in p)
+      ∙ word_rounds q m w h s le e least short none some

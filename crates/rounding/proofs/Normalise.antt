@@ -1,4 +1,4 @@
--- A significand brought to the top bit of a word: the bits below it are 0. That of a normal value of binary64 by 11; any other, of at most p bits for any p, by the count of its leading zeros. Assumes nothing.
+-- A significand of at most p bits brought to the top bit of a word by the count of its leading zeros: the bits below it are 0. Assumes nothing.
 use mathlib.Core.Path.{◌≡◌, sym, ap, ◌∙◌}
 use Prim.Native.Nat.{ℕ, ◌+◌, ◌-◌, ◌*◌, ◌%◌, ◌^◌, ◌≤◌, ◌<◌}
 use native.Mathlib.Nat.{le_of_eq, lt_of_lt_of_le, lt_of_le_of_lt, mul_assoc, mul-mod_left, mod-eq_of_lt, mul-lt-mul_of_pos_right}
@@ -8,21 +8,6 @@ use lib.Count.{count_leading_zeros}
 use Rattle.words.proofs.LeadingZeros.{TopShift, leading_zeros_top}
 use Rattle.rounding.proofs.RoundSticky.{pow_lt_back}
 
--- ---- by 11: a normal value's significand has 53 bits
-pub normal_top : (m : ℕ) → 2 ^ 52 ≤ m → m < 2 ^ 53 → 2 ^ 63 ≤ m * 2 ^ 11 % 2 ^ 64
-normal_top m h l = omega arith
-
-pub normal_multiple : (m : ℕ) → m * 2 ^ 11 % 2 ^ 64 % 2 ^ 11 ≡ 0
-normal_multiple m = omega arith
-
-pub normal_value : (m e : ℕ) → m < 2 ^ 53 → m * 2 ^ 11 % 2 ^ 64 * 2 ^ (e + 53) ≡ m * 2 ^ e * 2 ^ 64
-normal_value m e l =
-    let fits : m * 2 ^ 11 % 2 ^ 64 ≡ m * 2 ^ 11 = omega arith in
-    let k : 11 + (e + 53) ≡ e + 64 = omega arith in
-    ap (λ (x : ℕ). x * 2 ^ (e + 53)) fits ∙ mul_assoc m (2 ^ 11) (2 ^ (e + 53))
-    ∙ ap (λ (x : ℕ). m * x) (sym (pow-add 2 11 (e + 53)) ∙ ap (λ (x : ℕ). 2 ^ x) k ∙ pow-add 2 e 64) ∙ sym (mul_assoc m (2 ^ e) (2 ^ 64))
-
--- ---- by the count of leading zeros
 module _ (p m : ℕ) (short : p ≤ 64) (some : 0 < m) (small : m < 2 ^ p) where
   pub significand_top : TopShift m (count_leading_zeros 64 m)
   significand_top = leading_zeros_top m some (lt_of_lt_of_le small (pow_mono short))

@@ -1,2 +1,3 @@
 pub mod Scale
 pub mod TiesToEven
+pub mod Order

@@ -11,7 +11,19 @@ ghost use Rattle.std.specs.Float.Ieee.Scale.{finite};
 ghost use Rattle.words.specs.Value.{value};
 ghost use Rattle.rounding.specs.Scale.{unpacked_scale, product_scale, high_word_scale};
 
+pub mod laws;
+
 use words::TwoWords;
+
+// Where a significand m and an exponent e stand for m * 2^e / 2^scale: the scales of an unpacked significand, of one
+// brought to the top bit of a word, of a product of two such in two words, and of the high word of two alone.
+pub const UNPACKED_SCALE: u64 = 1074;
+
+pub const NORMALISED_SCALE: u64 = UNPACKED_SCALE + 64;
+
+pub const PRODUCT_SCALE: u64 = NORMALISED_SCALE + NORMALISED_SCALE;
+
+pub const HIGH_WORD_SCALE: u64 = PRODUCT_SCALE + 64;
 
 // Whether x is neither an infinity nor a NaN.
 #[tactic(auto, using(crate::proofs::Finite::finite_alike))]
@@ -21,7 +33,7 @@ pub fn is_finite(x: f64) -> bool
     x.is_finite()
 }
 
-// The value significand * 2^exponent / 2^1074, with its sign. The ranges are those of binary64 (IEEE 754-2019, 3.4).
+// The value significand * 2^exponent / 2^UNPACKED_SCALE, with its sign. The ranges are those of binary64 (IEEE 754-2019, 3.4).
 #[derive(Clone, Copy)]
 pub struct Unpacked {
     pub negative: bool,
@@ -54,7 +66,7 @@ pub fn unpack(x: f64) -> Unpacked
     }
 }
 
-// The value significand * 2^exponent / 2^1138, its significand at the top of the word.
+// The value significand * 2^exponent / 2^NORMALISED_SCALE, its significand at the top of the word.
 #[derive(Clone, Copy)]
 pub struct NormalisedSignificand {
     pub significand: u64,
@@ -64,18 +76,11 @@ pub struct NormalisedSignificand {
     pub ghost exponent_in_range: { exponent < 2100 },
 }
 
-// An unpacked significand brought to its top bit: that of a normal value by 11, and that of a
-// subnormal one by the count of its leading zeros.
+// An unpacked significand brought to its top bit. The shift is the count of its leading zeros.
 pub fn normalise_significand(x: Unpacked) -> NormalisedSignificand
     requires { 0 < x.significand }
     ensures { result.significand * 2 ^ result.exponent ≡ x.significand * 2 ^ x.exponent * 2 ^ 64 }
 {
-    if x.significand >= 0x10_0000_0000_0000 {
-        return NormalisedSignificand {
-            significand: x.significand << 11,
-            exponent: x.exponent + 53,
-        };
-    }
     let zeros = x.significand.leading_zeros() as u64;
     NormalisedSignificand {
         significand: x.significand << zeros,
@@ -107,15 +112,20 @@ fn pack(negative: bool, magnitude: u64) -> f64
     }
 }
 
-// The exponent of round_and_pack_word from which the value is normal: 2340 - 63 - 1022.
-const LEAST_NORMAL: u64 = 1255;
+// emax of binary64; emin is 1 - emax (IEEE 754-2019, 3.3).
+const GREATEST_EXPONENT: u64 = 1023;
 
-// And the one from which it overflows: 2340 - 63 + 1024. A value below it whose significand rounds
-// up to 2^53 at the greatest exponent is carried into the pattern of an infinity (IEEE 754-2019,
-// 4.3.1).
-const LEAST_OVERFLOW: u64 = 3301;
+// The place of a word's top bit.
+const TOP_PLACE: u64 = 63;
 
-// significand * 2^exponent / 2^2340 rounded (IEEE 754-2019, 4.3.1), for a significand with its top
+// The exponent of `round_and_pack_word` from which the value is normal: its leading bit counts 2^emin or more.
+const LEAST_NORMAL: u64 = HIGH_WORD_SCALE - TOP_PLACE - (GREATEST_EXPONENT - 1);
+
+// And the one from which it overflows: the leading bit counts 2^(emax + 1). A value below it whose significand
+// rounds up to 2^53 at the greatest exponent is carried into the pattern of an infinity (IEEE 754-2019, 4.3.1).
+const LEAST_OVERFLOW: u64 = HIGH_WORD_SCALE - TOP_PLACE + (GREATEST_EXPONENT + 1);
+
+// significand * 2^exponent / 2^HIGH_WORD_SCALE rounded (IEEE 754-2019, 4.3.1), for a significand with its top
 // bit set. The leading bit of the rounded significand, or a carry out of it, adds to the exponent's
 // field.
 pub fn round_and_pack_word(negative: bool, significand: u64, exponent: u64) -> f64
@@ -137,7 +147,7 @@ pub fn round_and_pack_word(negative: bool, significand: u64, exponent: u64) -> f
     }
 }
 
-// significand * 2^exponent / 2^2276 rounded (IEEE 754-2019, 4.3.1), for a significand of two words
+// significand * 2^exponent / 2^PRODUCT_SCALE rounded (IEEE 754-2019, 4.3.1), for a significand of two words
 // above 0. It is brought to its top bit first.
 pub fn round_and_pack(negative: bool, significand: TwoWords, exponent: u64) -> f64
     requires nonzero { 0 < value significand }

@@ -1,7 +1,7 @@
 -- Laws of the elements that pass a test. Assumes nothing.
 -- Members: `filter_member`, `member_filter`, `filter_range_member`, `member_filter_range`.
 -- A loop over the numbers: the number v goes to the place `length (filter_range p v)`, by `filter_range_place`.
--- Ids renamed by a bijection: `filter_range_bijection`, "the earlier ones taken through p and sorted".
+-- Ids renamed by a bijection: `filter_range_bijection`, the earlier ones taken through p and sorted.
 use Prim.Native.Nat.{ℕ, suc, ◌+◌, ◌-◌, ◌≤◌, ◌<◌}
 use native.Mathlib.Omega.{arith}
 use mathlib.Core.Path.{◌≡◌, refl, sym, ap, subst, ◌∙◌}

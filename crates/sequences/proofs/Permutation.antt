@@ -389,7 +389,7 @@ module _ {n : ℕ} {q : List ℕ} (h : IsPermutation n q) (lists : ℕ → List 
   unfolding relabelled
   length_relabelled i = length_sort (map (at q) (lists (at (inverse q) i))) ∙ length-map (lists (at (inverse q) i)) (at q)
 
-  -- "ascending order, repeats side by side"
+  -- ascending, repeats side by side
   pub relabelled_nondecreasing : (i : ℕ) → Nondecreasing (relabelled q lists i)
   unfolding relabelled
   relabelled_nondecreasing i = sort_nondecreasing (map (at q) (lists (at (inverse q) i)))

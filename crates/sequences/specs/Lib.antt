@@ -10,3 +10,4 @@ pub mod Least
 pub mod Search
 pub mod Slabs
 pub mod Equality
+pub mod Worked

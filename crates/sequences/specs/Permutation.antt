@@ -1,5 +1,5 @@
 -- Permutations of the numbers below n as lists, their inverses, and lists moved by them. Definitions only.
--- A permutation "holds the new id at each old one"; its inverse holds the old id at each new one.
+-- A permutation holds the new id at each old one, its inverse the old id at each new one.
 use Rattle.std.specs.Prelude.{ℕ, zero, suc, ◌≤◌, ◌<◌, ◌≡◌, ◌≢◌, Bool, true, false, not, ◌&&◌, cond, List, map, ltb, eqb, length, get_or}
 use Rattle.sequences.specs.Range.{all_below}
 use Rattle.sequences.specs.Tabulate.{tabulate, block}
@@ -23,7 +23,7 @@ pub record IsPermutation (n : ℕ) (q : List ℕ) : Type 0 where
   pub below : (v : ℕ) → v < n → at q v < n
   pub injective : (u v : ℕ) → u < n → v < n → at q u ≡ at q v → u ≡ v
 
--- ---- the test of refusal 6, "wrong length, or not a permutation of the ids"
+-- ---- the test of row 6
 -- the number at the place v is below n and unlike those before it
 unfoldable pub is_fresh : ℕ → List ℕ → ℕ → Bool
 is_fresh n q v = ltb (at q v) n && all_below (λ u. not (eqb (at q u) (at q v))) v
@@ -54,11 +54,11 @@ pub record Inverting (n : ℕ) (q old now : List ℕ) (v : ℕ) : Type 0 where
   pub inverted : (u : ℕ) → u < v → at now (at q u) ≡ u
   pub untouched : (i : ℕ) → n ≤ i → at now i ≡ at old i
 
--- "at first p(v) = v"
+-- each number at its own place
 unfoldable pub identity : ℕ → List ℕ
 identity n = tabulate n (λ v. v)
 
--- p, then q: "turns each p(v) into q(p(v))"
+-- p, then q: each p(v) becomes q(p(v))
 unfoldable pub compose : List ℕ → List ℕ → List ℕ
 compose q p = map (at q) p
 
@@ -68,15 +68,15 @@ module _ {A : Type 0} where
   unfoldable pub moved_blocks : ℕ → List ℕ → List A → A → List A
   moved_blocks w q l d = concatenate (length q) (λ i. block w l d (at (inverse q) i))
 
-  -- single elements: "place p(v) holds what v held"
+  -- single elements: place p(v) holds what v held
   abbrev pub moved : List ℕ → List A → A → List A
   moved q l d = moved_blocks 1 q l d
 
-  -- an element for each pair: "place p(v)·n + p(v') holds what v·n + v' held"
+  -- an element for each pair: place p(v)·n + p(w) holds what v·n + w held
   unfoldable pub moved_pairs : List ℕ → List A → A → List A
   moved_pairs q l d = concatenate (length q) (λ i. moved q (block (length q) l d (at (inverse q) i)) d)
 
 -- ---- lists of ids renumbered
--- the list at the new id i: the list that was at the old one, with each entry taken through p, in "ascending order, repeats side by side" (W-208)
+-- the list at the new id i: the list that was at the old one, with each entry taken through p, ascending, repeats side by side
 unfoldable pub relabelled : List ℕ → (ℕ → List ℕ) → ℕ → List ℕ
 relabelled q lists i = sort (map (at q) (lists (at (inverse q) i)))

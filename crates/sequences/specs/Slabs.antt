@@ -1,4 +1,4 @@
--- A list cut into whole slabs of one width, each replaced, and the tail: "A tail shorter than a slab (n, or n·n) is untouched." Definitions only.
+-- A list cut into whole slabs of one width, each replaced, and the tail, which stays as it is. Definitions only.
 use Rattle.std.specs.Prelude.{ℕ, ◌/◌, List, length}
 use Rattle.sequences.specs.Tabulate.{block, overwrite}
 use Rattle.sequences.specs.Starts.{concatenate}

@@ -11,7 +11,7 @@ module _ {A : Type 0} where
   unfoldable pub block : ℕ → List A → A → ℕ → List A
   block w l d i = tabulate w (λ k. get_or l (i * w + k) d)
 
-  -- a buffer after `new` was written from its front: "surplus is untouched"
+  -- a buffer after `new` was written from its front, the places behind as they were
   unfoldable pub overwrite : List A → List A → List A
   overwrite new old = new ++ drop (length new) old
 

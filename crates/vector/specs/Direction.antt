@@ -1,5 +1,5 @@
--- Rows 5 and 9 of document 01's table of refusals. Definitions only.
-use Rattle.std.specs.Prelude.{Bool, false, ◌&&◌, pos, negsuc, Float, Result, Ok, Err}
+-- Which vectors pass as positions (row 5) and as directions (row 9). Definitions only.
+use Rattle.std.specs.Prelude.{◌≡◌, Bool, true, false, ◌&&◌, pos, negsuc, Float, Result, Ok, Err}
 use Rattle.std.specs.Float.{fin}
 use Rattle.std.specs.Float.Ieee.{le}
 use Rattle.std.specs.Float.Ieee.Scale.{finite}
@@ -16,11 +16,15 @@ least_squared_length = fin false 1 (negsuc 39)
 abbrev pub greatest_squared_length : Float
 greatest_squared_length = fin false 1 (pos 40)
 
--- Row 5 refuses "a position with a non-finite component or computed squared length outside 2^−40..2^40, ends allowed", row 9 a direction likewise.
+-- Row 5 lets pass a position, and row 9 a direction, whose components are finite (IEEE 754-2019, 5.7.2) and whose squared length, as it is computed, is from 2 ^ -40 to 2 ^ 40, both ends included.
 unfoldable pub admissible : Vector3 → Bool
 admissible v =
     finite v.x && finite v.y && finite v.z
     && (le least_squared_length (squared_length v) && le (squared_length v) greatest_squared_length)
+
+-- The same as a fact.
+abbrev pub IsAdmissible : Vector3 → Type 0
+IsAdmissible v = admissible v ≡ true
 
 -- Row 9, and then the next rows.
 abbrev pub direction_row : Vector3 → Verdict → Verdict

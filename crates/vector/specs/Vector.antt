@@ -1,8 +1,7 @@
--- Document 01, "Vectors". Each `add`, `sub`, `mul` and `div` is one operation of IEEE 754-2019, 5.4.1, rounded to nearest, ties to even (4.3.1). Definitions only.
+-- Vectors of three doubles. Each `add`, `sub`, `mul` and `div` is one operation of IEEE 754-2019, 5.4.1, rounded to nearest, ties to even (4.3.1). Definitions only.
 use Rattle.std.specs.Prelude.{List, [], ◌∷◌, Float}
 use Rattle.std.specs.Float.{binary64}
 use Rattle.std.specs.Float.Ieee.{add, sub, mul, div}
-use Rattle.binary64.specs.Constants.{positive_zero}
 use Rattle.root.specs.Root.{square_root}
 use Rattle.vector.specs.declared.Vector3.{Vector3}
 
@@ -12,10 +11,6 @@ vector x y z = record { x = x; y = y; z = z }
 -- The components in their order, as positions hold them.
 abbrev pub coordinates : Vector3 → List Float
 coordinates v = v.x ∷ v.y ∷ v.z ∷ []
-
--- +0 in each component
-abbrev pub zero_vector : Vector3
-zero_vector = vector positive_zero positive_zero positive_zero
 
 -- "A dot product is x·x' + y·y' + z·z', summed from the left."
 abbrev pub dot_product : Vector3 → Vector3 → Float

@@ -1,13 +1,15 @@
-// Vectors of three doubles, as document 01's section "Vectors" gives them: each operation is a stated sequence of single roundings
-// (IEEE 754-2019, 4.3.1).
+// Vectors of three doubles: each operation is a stated sequence of single roundings (IEEE 754-2019, 4.3.1).
 #![tactic(auto)]
 
 ghost use Rattle.std.specs.Prelude.{◌≡◌, ⊤};
-ghost use Rattle.vector.specs.Vector.{vector, zero_vector, dot_product, cross_product, vector_difference, vector_sum, vector_multiple, vector_quotient, squared_length, length_of, normalized};
+ghost use Rattle.vector.specs.Vector.{vector, dot_product, cross_product, vector_difference, vector_sum, vector_multiple, vector_quotient, squared_length, length_of, normalized};
 ghost use Rattle.vector.specs.Triangle.{weights};
-ghost use Rattle.vector.specs.Direction.{admissible, direction_of};
+ghost use Rattle.vector.specs.Direction.{admissible};
 
-use refusal::Refusal;
+mod direction;
+pub mod laws;
+
+pub use direction::Direction;
 use root::sqrt;
 use std::ops::{Add, Div, Mul, Sub};
 
@@ -20,6 +22,7 @@ pub struct Vector3 {
 }
 
 impl Vector3 {
+    // +0 in each component.
     pub const ZERO: Vector3 = Vector3 {
         x: 0.0,
         y: 0.0,
@@ -30,13 +33,6 @@ impl Vector3 {
         ensures { result ≡ vector x y z }
     {
         Self { x, y, z }
-    }
-
-    // Document 01 asks for both, the constant and the function.
-    pub fn zero() -> Self
-        ensures { result ≡ zero_vector }
-    {
-        Self::ZERO
     }
 
     // x·x' + y·y' + z·z', summed from the left.
@@ -81,18 +77,6 @@ impl Vector3 {
     {
         let squared = self.norm_squared();
         (squared >= 9.094947017729282379150390625e-13) & (squared <= 1099511627776.0)
-    }
-
-    // The vector where row 9 lets it pass as a direction, for a caller that tests that row alone. Queries test it in its place among their
-    // own checks.
-    pub fn admitted(self) -> Result<Vector3, Refusal>
-        ensures { result ≡ direction_of self }
-    {
-        if self.is_admissible() {
-            Ok(self)
-        } else {
-            Err(Refusal::Direction)
-        }
     }
 }
 
@@ -161,7 +145,7 @@ impl Div<f64> for Vector3 {
     }
 }
 
-// The ids of a triangle's corners, as both locators answer them. Named fields and no array, as document 01 gives an answer's triple.
+// The ids of a triangle's corners, as both locators answer them. Named fields and no array: an answer's corners are its first, second and third.
 #[derive(Clone, Copy, Debug, PartialEq, Eq)]
 pub struct Triple {
     pub first: u16,

@@ -18,7 +18,7 @@ use Rattle.sequences.specs.Tabulate.{tabulate, overwrite}
 use Rattle.sequences.specs.Ascending.{is_member}
 use Rattle.sequences.specs.Permutation.{IsPermutation}
 use Rattle.sequences.proofs.Range.{pigeonhole}
-use Rattle.sequences.proofs.Tabulate.{length_tabulate, tabulate_at, tabulate_unique, get_d_member, length_overwrite, overwrite_at, take_overwrite}
+use Rattle.sequences.proofs.Tabulate.{length_tabulate, tabulate_at, tabulate_unique, get_d_member, overwrite_at, take_overwrite}
 use Rattle.sequences.proofs.Ascending.{pairwise_append, distinct_at, is_member_false}
 use Rattle.walk.specs.Walk.{enter, entered, unreached, place_from, order_of}
 use Rattle.walk.specs.Buffers.{DistinctIds, Holding}
@@ -225,9 +225,6 @@ module _ {n : ℕ} {q old : List ℕ} {reached : ℕ} {order queue : List ℕ} (
 
   pub holding_at_most : reached ≤ n
   holding_at_most = let r = ids_at_most h.once in omega (arith, h.size)
-
-  pub holding_queue_length : n ≤ length old → length queue ≡ length old
-  holding_queue_length room = ap length h.queued ∙ length_overwrite q old (let r = ids_at_most h.once in omega arith)
 
   pub holding_at : (i : ℕ) → i < reached → get_or queue i 0 ≡ get_or q i 0
   holding_at i lt = ap (λ (l : List ℕ). get_or l i 0) h.queued ∙ overwrite_at q old i 0 (omega (arith, h.size))

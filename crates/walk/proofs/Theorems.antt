@@ -4,13 +4,12 @@ use native.Mathlib.Omega.{arith}
 use mathlib.Core.Path.{◌≡◌, refl, sym, ap, subst, ◌∙◌}
 use mathlib.Core.Logic.{◌≢◌}
 use mathlib.Core.Bool.{Bool, true, false}
-use mathlib.Core.List.{List, Memᴰ}
+use mathlib.Core.List.{List}
 use lib.Dec.{eqb}
 use lib.ListN.{length, take}
 use borrow.Author.Tests.{eqb-true, eqb-false}
 use Rattle.sequences.specs.Tabulate.{overwrite}
-use Rattle.sequences.specs.Ascending.{Distinct}
-use Rattle.sequences.specs.Permutation.{at, is_permutation}
+use Rattle.sequences.specs.Permutation.{at}
 use Rattle.sequences.proofs.Tabulate.{take_overwrite, overwrite_at}
 use Rattle.sequences.proofs.Starts.{length_concatenate}
 use Rattle.sequences.proofs.Permutation.{is_permutation_complete, permutation_bijection}
@@ -23,17 +22,15 @@ use Rattle.mesh.specs.Mesh.{Mesh, count, neighbours}
 use Rattle.mesh.specs.Rows.{adjacency_rows}
 use Rattle.mesh.proofs.Facts.{adjacency_facts}
 use Rattle.mesh.proofs.Neighbours.{neighbour_below, entries_of_neighbours}
-use Rattle.mesh.proofs.Refusals.{IndexTold, told_none, adjacency_index, adjacency_reasons}
-use Rattle.walk.specs.Walk.{Visit, breadth_first, unreached, order_of, WalkOutcome, walked, bfs_vertex_permutation}
+use Rattle.mesh.specs.Laws.{IndexTold}
+use Rattle.mesh.proofs.Refusals.{told_none, adjacency_index, adjacency_reasons}
+use Rattle.walk.specs.Walk.{breadth_first, order_of, WalkOutcome, walked, bfs_vertex_permutation}
 use Rattle.walk.specs.Buffers.{DistinctIds}
+use Rattle.walk.specs.Laws.{visit_of, AcceptedWalk, PartialWalk}
 use Rattle.walk.proofs.Queue.{ids_at_most, ids_permutation}
 use Rattle.walk.proofs.Outcome.{Found, rows_refuse, short, made_of, found}
 use Rattle.walk.proofs.Visited.{visited_ids, all_entries_read}
 use Rattle.walk.proofs.Order.{length_order, number_of_place, number_of_member, number_of_absent, order_inverse, order_permutation}
-
--- the walk over a mesh
-abbrev pub visit_of : Mesh → Visit
-visit_of m = breadth_first (count m) (neighbours m)
 
 module _ (m : Mesh) (passed : adjacency_rows m ≡ Ok tt) where
   -- the queue's ids are below the vertex count, and none is there twice
@@ -50,25 +47,7 @@ module _ (m : Mesh) (passed : adjacency_rows m ≡ Ok tt) where
       all_entries_read (neighbours m) facts.some (λ v lt x k. neighbour_below m facts v x k) all
       ∙ sym (length_concatenate (count m) (neighbours m)) ∙ ap length (entries_of_neighbours m facts)
 
--- ---- an accepted walk
--- what it leaves for n vertices and so many entries
-pub record AcceptedWalk (n entries read : ℕ) (order queue : List ℕ) : Type 0 where
-  pub all_entries : read ≡ entries
-  pub permutation : is_permutation n order ≡ true
-  pub number_of_id : (k : ℕ) → k < n → at order (at queue k) ≡ k
-  pub id_of_number : (v : ℕ) → v < n → at queue (at order v) ≡ v
-  pub queue_below : (k : ℕ) → k < n → at queue k < n
-  pub queue_distinct : Distinct queue
-
--- ---- a walk that row 13 refuses
--- what it leaves for n vertices of which those in `ids` were reached, `old` the queue before: exactly these are numbered
-pub record PartialWalk (n : ℕ) (ids old order queue : List ℕ) : Type 0 where
-  pub some_unreached : length ids < n
-  pub reached_ids : DistinctIds n ids
-  pub reached_numbered : (v : ℕ) → Memᴰ v ids → (at order v < length ids) × (at ids (at order v) ≡ v)
-  pub others_not : (v : ℕ) → v < n → (Memᴰ v ids → ⊥) → at order v ≡ unreached
-  pub queued : queue ≡ overwrite ids old
-
+-- ---- accepted, or refused by row 13 or another
 module _ (m : Mesh) (order queue : List ℕ) where
   different : {A : Type 0} {reason : Refusal} {read : ℕ} → Err reason ≡ Ok read → A
   different e = let z : ◌≡◌ {A = ℕ} 0 1 = cc in absurd (let y : ⊥ = omega arith in y)
@@ -139,7 +118,6 @@ module _ (m : Mesh) (order queue : List ℕ) where
             queued = refl;
           })
 
-  -- 18 carries the index of the first start that falls, every other refusal 0
   pub walk_index : (reason : Refusal) → (bfs_vertex_permutation m order queue).answered ≡ Err reason → IndexTold m.starts reason
   unfolding walked
   walk_index reason e = go (found m order queue)

@@ -1,2 +1,3 @@
 pub mod Walk
 pub mod Buffers
+pub mod Laws

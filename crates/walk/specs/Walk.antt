@@ -1,4 +1,4 @@
--- The walk: "breadth first from vertex 0, lists in stored order; it gives each old id its new one, leaves the old ids in that order in its queue, and counts entries read" (document 01). Definitions only.
+-- The walk: breadth first from vertex 0, each list in its stored order. It gives each old id its new one, leaves the old ids in that order in its queue, and counts the entries that it reads. Definitions only.
 use Rattle.std.specs.Prelude.{ℕ, zero, suc, ◌+◌, Bool, true, false, ◌&&◌, cond, List, [], ◌∷◌, ◌++◌, leb, ltb, eqb, length, get_or, Result, Ok, Err}
 use Rattle.sequences.specs.Tabulate.{tabulate, overwrite}
 use Rattle.sequences.specs.Ascending.{is_member}
@@ -38,7 +38,7 @@ visited lists (suc k) = let visit = visited lists k in leave lists visit (ltb k 
 unfoldable pub breadth_first : ℕ → (ℕ → List ℕ) → Visit
 breadth_first n lists = visited lists n
 
--- What the order holds for an id that was not reached: "4,294,967,295 for others".
+-- What the order holds for an id that was not reached.
 abbrev pub unreached : ℕ
 unreached = 4294967295
 
@@ -65,7 +65,7 @@ walk_outcome answered order queue = record { answered = answered; order = order;
 unfoldable pub walk_fits : ℕ → List ℕ → List ℕ → Bool
 walk_fits n order queue = leb n (length order) && leb n (length queue)
 
--- Row 13 refuses "a vertex unreached". It "leaves reached ids numbered, 4,294,967,295 for others, and the queue of reached ids in order, its further places untouched".
+-- Row 13 refuses a mesh with a vertex that was not reached. It leaves the reached ids numbered and the others not, and in the queue the reached ids in their order, its further places as they were.
 unfoldable pub walked : Mesh → List ℕ → List ℕ → WalkOutcome
 walked m order queue =
     let visit = breadth_first (count m) (neighbours m) in

@@ -1,6 +1,8 @@
 // The breadth-first order of a mesh's vertices.
 #![tactic(auto)]
 
+pub mod laws;
+
 ghost use Rattle.std.specs.Prelude.{ℕ, ◌≤◌, ◌<◌, ◌≡◌, length, take};
 ghost use mathlib.Core.List.{Memᴰ};
 ghost use Rattle.sequences.specs.Starts.{part};
@@ -18,8 +20,8 @@ pub struct Reach {
     pub entries: usize,
 }
 
-// What the order holds for an id that has not entered the queue: 4,294,967,295. A number of its own, since document 01 gives it and the
-// order is lent as plain words.
+// What the order holds for an id that has not entered the queue: 4,294,967,295. A number of its own, since callers read it and the order is
+// lent as plain words.
 const UNREACHED: u32 = u32::MAX;
 
 // The ids of a list that have not entered yet enter behind the first `reached` places of the queue, and are numbered as they enter.

@@ -10,18 +10,6 @@ pow_split d w h = sym (pow-add 2 d (w - d)) ∙ ap (λ (x : ℕ). 2 ^ x) (let k 
 pow_in_two_steps : (d : ℕ) → d < 64 → 2 * 2 ^ (63 - d) ≡ 2 ^ (64 - d)
 pow_in_two_steps d h = sym (pow-add 2 1 (63 - d)) ∙ ap (λ (x : ℕ). 2 ^ x) (let k : 1 + (63 - d) ≡ 64 - d = omega arith in k)
 
--- what is dropped between the steps would be dropped at the end
-dropped_between : (x k P : ℕ) → x % P * k % P ≡ x * k % P
-dropped_between x k P =
-    sym (ap (λ (y : ℕ). y % P)
-    (ap (λ (y : ℕ). y * k) (sym (div-add-mod' x P)) ∙ add-mul (x / P * P) (x % P) k ∙ ap (λ (y : ℕ). y + x % P * k) (mul_right_comm (x / P) P k))
-    ∙ mul-add-mod_self_right (x / P * k) P (x % P * k))
-
-pub left_in_two_steps : (x d : ℕ) → d < 64 → x * 2 % 2 ^ 64 * 2 ^ (63 - d) % 2 ^ 64 ≡ x * 2 ^ (64 - d) % 2 ^ 64
-left_in_two_steps x d h =
-    dropped_between (x * 2) (2 ^ (63 - d)) (2 ^ 64)
-    ∙ ap (λ (y : ℕ). y % 2 ^ 64) (mul_assoc x 2 (2 ^ (63 - d)) ∙ ap (λ (y : ℕ). x * y) (pow_in_two_steps d h))
-
 pub right_in_two_steps : (x d : ℕ) → d < 64 → x / 2 / 2 ^ (63 - d) ≡ x / 2 ^ (64 - d)
 right_in_two_steps x d h = div-div-eq-div-mul x 2 (2 ^ (63 - d)) ∙ ap (λ (y : ℕ). x / y) (pow_in_two_steps d h)
 

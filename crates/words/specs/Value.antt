@@ -2,6 +2,6 @@
 use Rattle.std.specs.Prelude.{ℕ, ◌+◌, ◌*◌, ◌^◌}
 use Rattle.words.specs.declared.TwoWords.{TwoWords}
 
--- "128-bit products → two 64-bit words": the high word counts 2 ^ 64 each.
+-- The high word counts 2 ^ 64 each.
 abbrev pub value : TwoWords → ℕ
 value x = x.hi * 2 ^ 64 + x.lo

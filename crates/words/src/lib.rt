@@ -9,7 +9,7 @@ ghost use Rattle.words.specs.Sticky.{StickyEquivalent};
 use std::ops::{Add, Sub};
 
 // The number hi * 2^64 + lo. The high word is first, so that the derived order is that of the numbers.
-// Two words, and a u128 for a product alone: document 01 asks for sums whose carry is taken from the low word.
+// Sums and differences take their carry and their borrow from the low word; a product is the language's of 128 bits, split in two.
 #[derive(Clone, Copy, PartialEq, Eq, PartialOrd, Ord)]
 pub struct TwoWords {
     pub hi: u64,
@@ -64,7 +64,7 @@ pub fn choose<T: Copy>(first: bool, x: T, y: T) -> T
     if first { x } else { y }
 }
 
-// The exact product. Its low word is the rest by 2^64, since a cast asks that the number fits.
+// The exact product, the language's of 128 bits split in two. Its low word is the rest by 2^64, since a cast asks that the number fits.
 pub fn multiply(a: u64, b: u64) -> TwoWords
     ensures { value result ≡ a * b }
 {

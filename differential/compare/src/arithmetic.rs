@@ -27,10 +27,15 @@ fn mul_add(tally: &mut Tally, class: &Class<3>) {
 
 fn sqrt(tally: &mut Tally, class: &Class<1>) {
     class.each(class.count, |[x]| {
-        let (ours, rust) = (koshirga::sqrt(x), x.sqrt());
-        tally.compare(Judge::Rust, same(ours, rust), || {
-            format!("sqrt({:#018x}): {ours:?}, Rust {rust:?}", x.to_bits())
-        });
+        let rust = x.sqrt();
+        for (name, ours) in [
+            ("sqrt", koshirga::sqrt(x)),
+            ("sqrt_by_digits", koshirga::sqrt_by_digits(x)),
+        ] {
+            tally.compare(Judge::Rust, same(ours, rust), || {
+                format!("{name}({:#018x}): {ours:?}, Rust {rust:?}", x.to_bits())
+            });
+        }
     });
 }
 
@@ -49,8 +54,10 @@ pub fn mul_add_note() -> &'static str {
     "f64::mul_add: this processor's instruction"
 }
 
-/// MPFR judges this part of a class, ...
+/// MPFR judges this part of a class, of radicands the greater one, as a root's digits are taken by
+/// one call alone, ...
 const JUDGED_PART: usize = 10;
+const JUDGED_PART_OF_RADICANDS: usize = 2;
 /// ... but no fewer than these, so that a small class is judged whole.
 const JUDGED_LEAST: usize = 100_000;
 
@@ -59,17 +66,21 @@ const JUDGED_LEAST: usize = 100_000;
 pub fn write_cases(out: &mut impl Write) -> io::Result<()> {
     TRIPLES
         .iter()
-        .try_for_each(|class| write_class(out, class))?;
+        .try_for_each(|class| write_class(out, class, JUDGED_PART))?;
     RADICANDS
         .iter()
-        .try_for_each(|class| write_class(out, class))?;
+        .try_for_each(|class| write_class(out, class, JUDGED_PART_OF_RADICANDS))?;
     COMPARANDS
         .iter()
-        .try_for_each(|class| write_class(out, class))
+        .try_for_each(|class| write_class(out, class, JUDGED_PART))
 }
 
-fn write_class<const N: usize>(out: &mut impl Write, class: &Class<N>) -> io::Result<()> {
-    let count = class.count.min(JUDGED_LEAST.max(class.count / JUDGED_PART));
+fn write_class<const N: usize>(
+    out: &mut impl Write,
+    class: &Class<N>,
+    part: usize,
+) -> io::Result<()> {
+    let count = class.count.min(JUDGED_LEAST.max(class.count / part));
     writeln!(out, "{N} {count} {}", class.name)?;
     let mut written = Ok(());
     class.each(count, |operands| {

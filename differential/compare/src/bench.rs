@@ -31,6 +31,12 @@ pub fn run() {
         |&[a, b, c]| a.mul_add(b, c),
     );
     print_line("sqrt", positive, |&x| koshirga::sqrt(x), |&x| x.sqrt());
+    print_line(
+        "sqrt_by_digits, Rust sqrt",
+        positive,
+        |&x| koshirga::sqrt_by_digits(x),
+        |&x| x.sqrt(),
+    );
     print_line("floor", mixed, |&x| koshirga::floor(x), |&x| x.floor());
     print_line("ceil", mixed, |&x| koshirga::ceil(x), |&x| x.ceil());
     print_line("to_i64", mixed, |&x| koshirga::to_i64(x), |&x| x as i64);

@@ -410,6 +410,20 @@ const SPECIAL: [u64; 24] = [
 ];
 const SIGNED_SPECIAL: usize = 2 * SPECIAL.len();
 
+/// Each of them with both signs.
+pub fn special_numbers() -> impl Iterator<Item = f64> {
+    (0..SIGNED_SPECIAL).map(|at| f64::from_bits(special(at)))
+}
+
+/// Each exponent field with an edge of the significands: a field and the next one, of the other
+/// parity, have the same.
+pub fn each_exponent() -> impl Iterator<Item = f64> {
+    let edges = EDGE_SIGNIFICANDS.iter().flat_map(|&edge| [edge, edge]);
+    (0..EXPONENT_FIELDS)
+        .zip(edges.cycle())
+        .map(|(exponent, edge)| f64::from_bits(exponent << SIGNIFICAND_DIGITS | edge))
+}
+
 fn special(at: usize) -> u64 {
     let at = at % SIGNED_SPECIAL;
     SPECIAL[at / 2] | (at as u64 % 2) << 63

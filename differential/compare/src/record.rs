@@ -8,7 +8,7 @@ use crate::grids::{held_beside, mesh_row, row_5, rust_grid};
 use crate::helpers::{conversion_by_fields, minimum_number_of};
 use crate::marks::exchange;
 use crate::meshes::{permutation, Flat, Lattice, Lists, FREQUENCIES};
-use crate::operands::{Class, COMPARANDS, RADICANDS, TRIPLES};
+use crate::operands::{each_exponent, special_numbers, Class, COMPARANDS, RADICANDS, TRIPLES};
 use crate::patterns::{Patterns, Random, SIGN};
 use crate::queries::{self, Answers, Slices};
 use crate::renumber::{self, State};
@@ -617,10 +617,16 @@ fn mul_add() -> Records {
         .collect()
 }
 
+/// Cases from all over each class: random numbers, subnormals, squares and their neighbours, roots
+/// next to halfway, as none is halfway. Then the special numbers, the least and the greatest among
+/// them, and every exponent.
 fn sqrt() -> Records {
     operands(RADICANDS)
         .into_iter()
-        .map(|[x]| Record::default().double(x).outcome().double(x.sqrt()))
+        .map(|[x]| x)
+        .chain(special_numbers())
+        .chain(each_exponent())
+        .map(|x| Record::default().double(x).outcome().double(x.sqrt()))
         .collect()
 }
 

@@ -8,7 +8,8 @@ use Rattle.mesh.specs.Rows.{adjacency_rows}
 use Rattle.mesh.proofs.Facts.{adjacency_facts}
 use Rattle.mesh.proofs.Made.{checked_made, checked_refused}
 use Rattle.walk.specs.Buffers.{Traversed}
-use Rattle.walk.proofs.Theorems.{visit_of, all_read}
+use Rattle.walk.specs.Laws.{visit_of}
+use Rattle.walk.proofs.Theorems.{all_read}
 use Rattle.walk.proofs.Outcome.{mesh_walkable, outcome_refused, outcome_order_short, outcome_queue_short, outcome_walked, outcome_unreached}
 use Rattle.walk.proofs.bfs_vertex_permutation.Goals.{After-count-count, After-breadth_first-reach, then-order-count-via-then-order-count, then-order-count-via-else-order-count+then-queue-count}
 use Rattle.walk.proofs.bfs_vertex_permutation.Goals as goal

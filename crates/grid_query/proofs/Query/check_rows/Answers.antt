@@ -3,10 +3,10 @@ use Rattle.std.proofs.lemmas.Result.{err_from_is_err_and}
 use Rattle.grid_query.proofs.GridRows.{direction_refused, direction_passed}
 use Rattle.grid_query.proofs.Query.check_rows.Goals as goal
 
-pub returns-in_err-admitted : goal.returns-in_err-admitted
-returns-in_err-admitted c =
-    let p = err_from_is_err_and c.from_residual-in_err-admitted.result c.from_residual-in_err-admitted.ensures.1 in
-    rw (p.1, p.2) (sym (direction_refused _ _ _ (sym c.in_ok-check.ensures) _ (sym c.in_err-admitted.ensures)))
+pub returns-in_err-new : goal.returns-in_err-new
+returns-in_err-new c =
+    let p = err_from_is_err_and c.from_residual-in_err-new.result c.from_residual-in_err-new.ensures.1 in
+    rw (p.1, p.2) (sym (direction_refused _ _ _ (sym c.in_ok-check.ensures) _ (sym c.in_err-new.ensures)))
 
 pub returns : goal.returns
-returns c = sym (direction_passed _ _ _ (sym c.in_ok-check.ensures) _ (sym c.in_ok-admitted.ensures))
+returns c = sym (direction_passed _ _ _ (sym c.in_ok-check.ensures) _ (sym c.in_ok-new.ensures))

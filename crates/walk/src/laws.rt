@@ -1,0 +1,14 @@
+// Theorems about the walk, each the contract of a function without code.
+ghost use Rattle.walk.specs.Laws.{WalkAccepted, UnreachedNumbered, WalkIndex, TwelveWalked};
+
+/// What a walk leaves that is accepted, what one leaves that does not reach every vertex, and what the index of a refusal tells.
+pub fn walk_outcomes()
+    ensures accepted { WalkAccepted }
+    ensures unreached { UnreachedNumbered }
+    ensures index { WalkIndex }
+{}
+
+/// The walk of the lattice of frequency 1.
+pub fn worked_walk()
+    ensures { TwelveWalked }
+{}
