@@ -35,14 +35,15 @@ static const char *const REFUSALS[] = {
     [KOSHIRGA_POSITION] = "a position isn't finite, or its length is below 2^-20 or above 2^20",
     [KOSHIRGA_PERMUTATION] = "not a permutation of the ids",
     [KOSHIRGA_ENTRIES_PER_VERTEX] = "the entries a vertex are neither 1 nor the vertex count",
-    [KOSHIRGA_ROOM] = "a slice is too short",
+    [KOSHIRGA_ROOM] = "a slice is too short, or an offset is above 4294967295",
     [KOSHIRGA_DIRECTION] = "the direction isn't finite, or its length is below 2^-20 or above 2^20",
     [KOSHIRGA_FLAGS] = "the outside flags sum to over 3: a long direction close to an icosahedron "
                        "vertex",
     [KOSHIRGA_EMPTY_CELL] = "no vertex is in the direction's cell",
     [KOSHIRGA_NO_TRIANGLE] = "no triangle at the nearest vertex has a least weight",
     [KOSHIRGA_UNREACHED] = "the mesh is not connected",
-    [KOSHIRGA_STARTS_SPAN] = "the first start isn't 0, or the last isn't the number of entries",
+    [KOSHIRGA_STARTS_SPAN] = "the first start isn't 0, or the last isn't the number of entries, "
+                             "ids or triples",
     [KOSHIRGA_STARTS_FALL] = "a start is below the one before it",
     [KOSHIRGA_FACTOR] = "the grid's factor isn't finite, or is below 0.5 or above 4.0",
     [KOSHIRGA_MARGIN] = "the grid's margin is above 3",

@@ -68,6 +68,13 @@ double any_double(draw *d) {
     }
 }
 
+/* The number that a pattern of binary32 is. */
+static double value_of(uint32_t bits) {
+    float x;
+    memcpy(&x, &bits, sizeof x);
+    return (double)x;
+}
+
 double any_converted(draw *d) {
     double magnitude;
     switch (below(d, 4)) {
@@ -77,6 +84,30 @@ double any_converted(draw *d) {
         break;
     default: return any_double(d);
     }
+    return one_in(d, 2) ? magnitude : -magnitude;
+}
+
+double any_rounded(draw *d) {
+    enum { GREATEST = 0x7f7fffff, LEAST_NORMAL = 0x00800000 }; /* patterns of binary32 */
+    uint32_t bits = (uint32_t)(any_bits(d) % GREATEST);
+    double magnitude, next;
+    switch (below(d, 8)) {
+    case 0: bits = GREATEST - below(d, 2); break;
+    case 1: bits = below(d, 3); break;
+    case 2: bits = (uint32_t)(any_bits(d) % LEAST_NORMAL); break;
+    case 3: bits = LEAST_NORMAL + below(d, 5) - 2; break;
+    case 4: bits = (uint32_t)(127 - below(d, 20)) << 23 | (uint32_t)(any_bits(d) >> 41); break;
+    case 5: bits = (1 + below(d, 254)) << 23 | (one_in(d, 2) ? 0x7fffff : 0); break;
+    case 6: return any_double(d);
+    default: break;
+    }
+    magnitude = value_of(bits);
+    next = bits == GREATEST ? 0x1p128 : value_of(bits + 1);
+    if (one_in(d, 4))
+        next = magnitude;
+    magnitude += (next - magnitude) / 2;
+    if (one_in(d, 2) && magnitude > 0)
+        magnitude = from_bits(bits_of(magnitude) + below(d, 5) - 2);
     return one_in(d, 2) ? magnitude : -magnitude;
 }
 
@@ -175,6 +206,31 @@ size_t any_length(draw *d, size_t needed) {
     case 4: return needed + below(d, SURPLUS_MAX + 1);
     default: return needed;
     }
+}
+
+/* ---- buffers */
+
+buffer any_buffer(draw *d, size_t needed) {
+    size_t taken = one_in(d, 3) ? 0 : below(d, SURPLUS_MAX + 1);
+    buffer b = {any_length(d, taken + needed), taken, false};
+    switch (below(d, 32)) {
+    case 0: b.taken = b.length; break;
+    case 1: b.taken = b.length + 1; break;
+    case 2: b.taken = SIZE_MAX - (one_in(d, 2) ? 0 : below(d, 3)); break;
+    case 3: b.taken = 0 - needed + below(d, SURPLUS_MAX); break; /* with the needed ones it wraps */
+    case 4: b.taken = (size_t)any_bits(d); break;
+    case 5: b.taken += (size_t)1 << 32; break; /* its low bits alone would fit */
+    default: break;
+    }
+    return b;
+}
+
+buffer any_far_buffer(draw *d, size_t before, size_t needed) {
+    size_t offset = ((size_t)1 << 32) + below(d, 5) - 3;
+    buffer b = {0, one_in(d, 4) ? offset : offset - before, true};
+    b.length = b.taken + needed + (one_in(d, 2) ? 0 : below(d, SURPLUS_MAX));
+    b.length -= one_in(d, 8);
+    return b;
 }
 
 /* ---- pairs */
@@ -526,12 +582,17 @@ static size_t any_fall(draw *d, size_t last) {
 
 /* Puts the start at a place, which is not the first, below the one before it: lowers it, or raises
  * that one, so far at times that the list before is over the limit. */
-static void make_fall(draw *d, mesh *m, size_t place) {
-    uint32_t *start = m->starts + place;
+static void make_fall(draw *d, uint32_t *starts, size_t place) {
+    uint32_t *start = starts + place;
     if (start[-1] > 0 && one_in(d, 3))
         start[0] = start[-1] - 1 - (one_in(d, 2) ? 0 : below(d, start[-1]));
     else
         start[-1] = start[0] + 1 + (one_in(d, 2) ? below(d, 3) : below(d, 3 * LIST_MAX));
+}
+
+void damage_falls(draw *d, uint32_t *starts, size_t last) {
+    for (uint32_t i = one_in(d, 3) ? 2 + below(d, 2) : 1; i > 0; i--)
+        make_fall(d, starts, any_fall(d, last));
 }
 
 static void damage_starts(draw *d, mesh *m) {
@@ -549,14 +610,14 @@ static void damage_starts(draw *d, mesh *m) {
     case 6: /* row 17 twice over, and a fall */
         m->starts[0] = 1 + below(d, 3);
         m->starts[last] += below(d, 3) - 1;
-        make_fall(d, m, any_fall(d, last));
+        make_fall(d, m->starts, any_fall(d, last));
         break;
     case 7:
     case 8: /* several falls */
         for (uint32_t i = 2 + below(d, 2); i > 0; i--)
-            make_fall(d, m, any_fall(d, last));
+            make_fall(d, m->starts, any_fall(d, last));
         break;
-    default: make_fall(d, m, any_fall(d, last)); break;
+    default: make_fall(d, m->starts, any_fall(d, last)); break;
     }
 }
 

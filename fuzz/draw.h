@@ -28,6 +28,11 @@ double any_double(draw *d);
  * last bit is worth about 1, or any. */
 double any_converted(draw *d);
 
+/* A number to be rounded to binary32: such a number, halfway between two, or some ulps beside
+ * these; its magnitude any, about the greatest, among the subnormals or about half the least one.
+ * Or any double. */
+double any_rounded(draw *d);
+
 /* The bits of an operand of a minimum: zeros, infinities and NaNs of both signs, the NaNs quiet and
  * signaling with any payload, small numbers, and any. Bits, as not every machine passes a signaling
  * NaN as it is. */
@@ -47,6 +52,20 @@ koshirga_vector3 any_direction(draw *d);
 
 /* The most places that any_length adds. */
 enum { SURPLUS_MAX = 40 };
+
+/* The places of a buffer for the graphics card, and how many of them are taken. */
+typedef struct buffer {
+    size_t length, taken;
+    bool far; /* as lend_far makes it: there are at least FAR_TOUCHED places */
+} buffer;
+
+/* A buffer into which so many elements are packed: room enough as a rule, one place too few or
+ * more, the taken ones up to the end, past it, or so many that a sum would wrap. */
+buffer any_buffer(draw *d, size_t needed);
+
+/* A far buffer. `before` elements of the needed ones stand before the last list, whose offset is
+ * about 2^32. */
+buffer any_far_buffer(draw *d, size_t before, size_t needed);
 
 /* A length for a slice of which `needed` places are needed: enough as a rule, too short at times.
  */
@@ -93,6 +112,9 @@ void arrange_lists(draw *d, mesh *m);
 
 /* Puts one thing of it wrong, or nothing at times. */
 void damage_mesh(draw *d, mesh *m);
+
+/* Makes starts fall at one place or at several; there are two at least, the last at `last`. */
+void damage_falls(draw *d, uint32_t *starts, size_t last);
 
 /* count numbers, a permutation of those below it: none moved, reversed, turned or random. */
 void any_permutation(draw *d, uint32_t *permutation, size_t count);

@@ -1,5 +1,6 @@
 /* What libFuzzer runs: every function of koshirga.h on drawn arguments. Each answer, each element
  * of each lent slice and the mark are compared with the papers' second reading (reading.h). */
+#include <float.h>
 #include <math.h>
 #include <stdlib.h>
 #include <string.h>
@@ -55,6 +56,61 @@ static void call_to_i64(double x) {
          "kept exactly where the number is the value");
     count(ENTRY_to_i64, 0);
     count_conversion(x, answer);
+}
+
+static bool same_floats(float x, float y) {
+    return float_bits(x) == float_bits(y) || (isnan(x) && isnan(y));
+}
+
+/* Whether a number is halfway between its rounded one and the next of binary32 on its side. */
+static bool is_tie(double x, float rounded) {
+    float next = nextafterf(rounded, x > (double)rounded ? INFINITY : -INFINITY);
+    return isfinite(next) && x != (double)rounded && (double)rounded + (double)next == 2 * x;
+}
+
+/* Counts how a number was rounded to binary32. */
+static void count_rounding(double x, float rounded) {
+    static const entry of = ENTRY_to_f32;
+    double from = fabs(x), to = fabs((double)rounded);
+    bool tie = isfinite(rounded) && is_tie(x, rounded), subnormal = to > 0 && to < 0x1p-126;
+    if (isnan(x) || isinf(x)) {
+        count_way(of, isnan(x) ? WAY_ROUNDED_NAN : WAY_INFINITY_KEPT);
+        return;
+    }
+    if (isinf(rounded)) {
+        count_way(of, from == 0x1p128 - 0x1p103 ? WAY_OVERFLOW_TIE : WAY_OVERFLOW);
+        return;
+    }
+    if (subnormal)
+        count_way(of, tie ? WAY_SUBNORMAL_TIE : WAY_SUBNORMAL);
+    if (from == to) {
+        count_way(of, x == 0 && signbit(x) ? WAY_ZERO_STAYS : WAY_EXACT);
+        return;
+    }
+    if (tie)
+        count_way(of, to < from ? WAY_TIE_TOWARD_ZERO : WAY_TIE_AWAY);
+    else
+        count_way(of, to < from ? WAY_TOWARD_ZERO : WAY_AWAY);
+    if (to == 0)
+        count_way(of, tie ? WAY_ZERO_TIE : WAY_ZERO);
+    if (to == 0 && x < 0)
+        count_way(of, WAY_LOWER_ZERO);
+    if (to == 0x1p-126 && from < to)
+        count_way(of, WAY_LEAST_NORMAL);
+    if (to > 0x1p-126 && from < to && float_bits(rounded) << 9 == 0)
+        count_way(of, WAY_CARRIED);
+    if (to == FLT_MAX && from > to)
+        count_way(of, WAY_GREATEST_FLOAT);
+}
+
+static void call_to_f32(double x) {
+    entry of = ENTRY_to_f32;
+    float answer = koshirga_to_f32(x);
+    hold(of, same_floats(expected_to_f32(x), answer), "the result");
+    hold(of, same_floats((float)x, answer), "what a cast in C gives");
+    hold(of, isnan(x) || !signbit(x) == !signbit(answer), "the sign");
+    count(of, 0);
+    count_rounding(x, answer);
 }
 
 /* Counts what a minimum of two or three operands was found among. */
@@ -149,6 +205,9 @@ static void arithmetic(draw *d) {
     COMPARE(floor, same, floor(x), x);
     COMPARE(ceil, same, ceil(x), x);
     call_to_i64(any_converted(d));
+    call_to_f32(any_rounded(d));
+    call_to_f32(any_rounded(d));
+    call_to_f32(x);
     COMPARE(mul_add, same, fma(x, y, z), x, y, z);
     COMPARE(sqrt, same, sqrt(x), x);
     COMPARE(sqrt, same, sqrt(fabs(y)), fabs(y));
@@ -995,8 +1054,9 @@ static koshirga_grid grid_struct(const query *q) {
                            .triples_length = q->grid.triples_length};
 }
 
-/* Counts what the recorded pair was, and what else was wrong or had been changed. */
-static void count_record(entry of, const query *e, vector v, uint32_t row) {
+/* Counts what the recorded pair was, and what else was wrong or had been changed; `direction` is
+ * the row that a query's direction has. */
+static void count_record(entry of, const query *e, uint32_t direction, uint32_t row) {
     size_t vertices = e->positions_length / 3;
     bool positions = vertices > 0 && vertices <= VERTEX_MAX && e->positions_length % 3 == 0;
     uint32_t pair_row = settings_row(e->pair);
@@ -1013,7 +1073,7 @@ static void count_record(entry of, const query *e, vector v, uint32_t row) {
         count_way(of, WAY_MARGIN_AND_SIDE);
     if ((row == 19 || row == 20) && !lengths)
         count_way(of, WAY_PAIR_AND_LENGTH);
-    if ((row == 19 || row == 20) && expected_direction(v))
+    if ((row == 19 || row == 20) && direction)
         count_way(of, WAY_PAIR_AND_DIRECTION);
     if (row == 2 && positions)
         count_way(of, WAY_SIDE);
@@ -1076,7 +1136,7 @@ static void call_nearest(const query *q, const query *e, vector v, bool structs)
     hold(of, answer.refusal || answer.id < q->positions_length / 3, "an id below the count");
     hold_query(of);
     count(of, answer.refusal);
-    count_record(of, e, v, answer.refusal);
+    count_record(of, e, expected_direction(v), answer.refusal);
     count_part(of, e, v, answer.refusal, answer.index);
 }
 
@@ -1129,7 +1189,7 @@ static void call_locate(const query *q, const query *e, vector v, bool structs) 
          "document 01's least but for a zero's sign");
     hold_query(of);
     count(of, at.refusal);
-    count_record(of, e, v, at.refusal);
+    count_record(of, e, expected_direction(v), at.refusal);
     count_part(of, e, v, at.refusal, at.index);
     if (!at.refusal)
         count_located(of, e, v, &at);
@@ -1308,7 +1368,411 @@ static void any_grid(draw *d) {
     call_queries(d, &q, 4);
 }
 
+/* ---- buffers for the graphics card */
+
+/* The slices into which grids are packed. */
+enum { WORDS = 7, FLOATS = 8 };
+
+static bool fits(buffer b, size_t needed) {
+    return b.taken <= b.length && b.length - b.taken >= needed;
+}
+
+static bool same_records(koshirga_level_record a, koshirga_level_record b) {
+    return memcmp(&a, &b, sizeof a) == 0;
+}
+
+/* How many starts fall. */
+static size_t falls_of(const uint32_t *starts, size_t length) {
+    size_t falls = 0;
+    for (size_t i = 1; i < length; i++)
+        falls += starts[i] < starts[i - 1];
+    return falls;
+}
+
+static bool ids_past(const uint16_t *ids, size_t length, size_t count) {
+    for (size_t i = 0; i < length; i++)
+        if (ids[i] >= count)
+            return true;
+    return false;
+}
+
+/* Counts how the start lists of a packed grid were refused. */
+static void count_packed_starts(entry of, const query *e, uint32_t row, size_t index) {
+    const grid *g = &e->grid;
+    size_t count = e->positions_length / 3, cells = g->cell_starts_length - 1;
+    if (row == 3) {
+        bool in_cells = g->cell_starts_length != 6 * (size_t)e->side * e->side + 1;
+        count_way(of, in_cells ? WAY_CELL_LENGTH : WAY_VERTEX_LENGTH);
+        return;
+    }
+    size_t cell_falls = falls_of(g->cell_starts, cells + 1);
+    size_t triangle_falls = falls_of(g->triangle_starts, count + 1);
+    size_t last = g->triangle_starts[count], third = g->triples_length / 3;
+    bool cells_span = g->cell_starts[0] == 0 && g->cell_starts[cells] == g->cell_ids_length;
+    bool triangles_span = g->triangle_starts[0] == 0 && 3 * last == g->triples_length;
+    if (row == 17 && !cells_span) {
+        count_way(of, g->cell_starts[0] != 0                       ? WAY_CELLS_FIRST
+                      : g->cell_starts[cells] < g->cell_ids_length ? WAY_CELLS_BELOW
+                                                                   : WAY_CELLS_ABOVE);
+        if (!triangles_span)
+            count_way(of, WAY_CELLS_AND_TRIANGLES);
+    } else if (row == 17) {
+        bool whole = g->triples_length % 3 == 0;
+        count_way(of, g->triangle_starts[0] != 0                  ? WAY_TRIANGLES_FIRST
+                      : (uint32_t)(3 * last) == g->triples_length ? WAY_TRIANGLES_WRAP
+                      : !whole                                    ? WAY_TRIANGLES_THIRD
+                      : last < third                              ? WAY_TRIANGLES_BELOW
+                                                                  : WAY_TRIANGLES_ABOVE);
+        if (cell_falls)
+            count_way(of, WAY_TRIANGLES_AND_FALL);
+    }
+    if (row != 18)
+        return;
+    if (cell_falls) {
+        count_way(of, WAY_CELLS_FALL_FIRST + place_of(index, 2, cells));
+        if (cell_falls > 1)
+            count_way(of, WAY_CELLS_FALL_AGAIN);
+        if (triangle_falls)
+            count_way(of, WAY_BOTH_FALL);
+    } else {
+        count_way(of, WAY_TRIANGLES_FALL_FIRST + place_of(index, 2, count));
+        if (triangle_falls > 1)
+            count_way(of, WAY_TRIANGLES_FALL_AGAIN);
+    }
+    if (ids_past(g->cell_ids, g->cell_ids_length, count) ||
+        ids_past(g->triples, g->triples_length, count))
+        count_way(of, WAY_FALL_AND_ID);
+}
+
+/* Counts which ids or positions were refused. */
+static void count_packed_ids(entry of, const query *e, uint32_t row, bool room) {
+    const grid *g = &e->grid;
+    size_t count = e->positions_length / 3;
+    bool in_cells = ids_past(g->cell_ids, g->cell_ids_length, count);
+    bool in_triples = ids_past(g->triples, g->triples_length, count);
+    bool position = false, not_a_number = false;
+    for (size_t v = 0; v < count; v++) {
+        vector p = position_of(e->positions, v);
+        position |= expected_direction(p) != 0;
+        not_a_number |= isnan(p.x) || isnan(p.y) || isnan(p.z);
+    }
+    if (row == 4) {
+        count_way(of, in_cells && in_triples ? WAY_BOTH_IDS
+                      : in_cells             ? WAY_CELL_ID
+                                             : WAY_TRIPLE_ID);
+        if (position)
+            count_way(of, WAY_ID_AND_POSITION);
+        return;
+    }
+    count_way(of, not_a_number ? WAY_POSITION_NAN : WAY_POSITION);
+    if (!room)
+        count_way(of, WAY_POSITION_AND_ROOM);
+}
+
+/* Counts why there was too little room, where that is so in one of the two alone. */
+static void count_no_room(entry of, buffer w, size_t words, size_t before, buffer f,
+                          size_t floats) {
+    const size_t next = (size_t)1 << 32;
+    bool words_fit = fits(w, words), floats_fit = fits(f, floats);
+    if (words_fit && floats_fit) {
+        if (w.taken + before == next && f.taken < next)
+            count_way(of, WAY_OFFSET_ABOVE);
+        if (w.taken == next && f.taken < next)
+            count_way(of, WAY_ALL_ABOVE);
+        if (f.taken == next && w.taken + before < next)
+            count_way(of, WAY_FLOATS_ABOVE);
+        return;
+    }
+    if (!words_fit && !floats_fit)
+        return;
+    buffer b = words_fit ? f : w;
+    size_t needed = words_fit ? floats : words;
+    if (b.taken == SIZE_MAX)
+        count_way(of, words_fit ? WAY_FLOATS_ALL : WAY_WORDS_ALL);
+    if (b.taken > b.length && b.taken + needed <= b.length)
+        count_way(of, words_fit ? WAY_FLOATS_WRAP : WAY_WORDS_WRAP);
+    if (b.taken > b.length && b.taken - b.length == 1)
+        count_way(of, words_fit ? WAY_FLOATS_PAST : WAY_WORDS_PAST);
+    if (b.taken == b.length)
+        count_way(of, words_fit ? WAY_FLOATS_FULL : WAY_WORDS_FULL);
+    if (b.taken < b.length && b.length - b.taken == needed - 1)
+        count_way(of, words_fit ? WAY_FLOAT_SHORT : WAY_WORD_SHORT);
+}
+
+/* Counts what the lists of a packed grid were. */
+static void count_packed_lists(entry of, const query *e) {
+    const grid *g = &e->grid;
+    bool large = false, many = false, falling_ids = false, falling_triple = false;
+    for (size_t c = 0; c + 1 < g->cell_starts_length; c++) {
+        size_t start = g->cell_starts[c], end = g->cell_starts[c + 1];
+        large |= end - start > LIST_MAX;
+        for (size_t i = start + 1; i < end; i++)
+            falling_ids |= g->cell_ids[i] < g->cell_ids[i - 1];
+    }
+    for (size_t v = 0; v + 1 < g->triangle_starts_length; v++)
+        many |= g->triangle_starts[v + 1] - g->triangle_starts[v] > LIST_MAX;
+    for (size_t i = 0; i < g->triples_length; i += 3)
+        falling_triple |=
+            g->triples[i] >= g->triples[i + 1] || g->triples[i + 1] >= g->triples[i + 2];
+    if (g->cell_ids_length == 0)
+        count_way(of, WAY_NO_IDS);
+    if (g->triples_length == 0)
+        count_way(of, WAY_NO_TRIPLES);
+    if (large)
+        count_way(of, WAY_LARGE_CELL);
+    if (many)
+        count_way(of, WAY_MANY_TRIANGLES);
+    if (falling_ids)
+        count_way(of, WAY_FALLING_IDS);
+    if (falling_triple)
+        count_way(of, WAY_FALLING_TRIPLE);
+}
+
+/* Counts how the coordinates of a packed grid were rounded. */
+static void count_packed_coordinates(entry of, const query *e) {
+    bool inexact = false, tie = false, subnormal = false, lower_zero = false;
+    for (size_t i = 0; i < e->positions_length; i++) {
+        double x = e->positions[i];
+        float rounded = (float)x;
+        if ((double)rounded == x && x != 0)
+            continue;
+        inexact |= (double)rounded != x;
+        tie |= is_tie(x, rounded);
+        subnormal |= rounded != 0 && fabsf(rounded) < FLT_MIN;
+        lower_zero |= rounded == 0 && signbit(rounded);
+    }
+    if (inexact)
+        count_way(of, WAY_PACKED_INEXACT);
+    if (tie)
+        count_way(of, WAY_PACKED_TIE);
+    if (subnormal)
+        count_way(of, WAY_PACKED_SUBNORMAL);
+    if (lower_zero)
+        count_way(of, WAY_PACKED_LOWER_ZERO);
+}
+
+/* Counts where an accepted grid was packed; `behind`: another was packed before into the slices. */
+static void count_place(entry of, buffer w, size_t words, buffer f, size_t floats,
+                        koshirga_level_record level, bool behind) {
+    if (w.taken == 0 && f.taken == 0)
+        count_way(of, WAY_NONE_TAKEN);
+    if (w.taken > 0 && f.taken > 0)
+        count_way(of, WAY_BOTH_TAKEN);
+    if (behind)
+        count_way(of, WAY_BEHIND_GRID);
+    if (w.taken + words == w.length && f.taken + floats == f.length)
+        count_way(of, WAY_FULL);
+    if (w.taken + words < w.length && f.taken + floats < f.length)
+        count_way(of, WAY_SURPLUS);
+    if (level.triples == UINT32_MAX)
+        count_way(of, WAY_OFFSET_GREATEST);
+    if (level.triples < UINT32_MAX && w.taken + words > (size_t)UINT32_MAX + 1)
+        count_way(of, WAY_OFFSET_BEFORE);
+    if (level.positions == UINT32_MAX)
+        count_way(of, WAY_FLOATS_GREATEST);
+}
+
+static bool ids_stand(const uint32_t *words, const uint16_t *ids, size_t length) {
+    for (size_t i = 0; i < length; i++)
+        if (words[i] != ids[i])
+            return false;
+    return true;
+}
+
+static bool starts_stand(const uint32_t *words, const uint32_t *starts, size_t length) {
+    return length == 0 || memcmp(words, starts, length * sizeof *starts) == 0;
+}
+
+/* Each list stands at its offset, each coordinate is what a cast in C gives, and none is infinite
+ * or a NaN. */
+static void hold_packed(entry of, const query *q, const uint32_t *words, const float *floats,
+                        koshirga_level_record level) {
+    const grid *g = &q->grid;
+    hold(of, starts_stand(words + level.cell_starts, g->cell_starts, g->cell_starts_length),
+         "the cell starts at their offset");
+    hold(of, ids_stand(words + level.cell_ids, g->cell_ids, g->cell_ids_length),
+         "the cell ids at their offset");
+    hold(of,
+         starts_stand(words + level.triangle_starts, g->triangle_starts, g->triangle_starts_length),
+         "the triangle starts at their offset");
+    hold(of, ids_stand(words + level.triples, g->triples, g->triples_length),
+         "the triples at their offset");
+    bool cast = true, finite = true;
+    for (size_t i = 0; i < q->positions_length; i++) {
+        float packed = floats[level.positions + i];
+        cast &= float_bits(packed) == float_bits((float)q->positions[i]);
+        finite &= isfinite(packed) != 0;
+    }
+    hold(of, cast, "what a cast in C gives, at its offset");
+    hold(of, finite, "finite floats");
+}
+
+/* Packs a grid up to three times into the same slices, each time behind the last. */
+static void call_pack(draw *d, const query *drawn) {
+    query e, q = lend_query(d, drawn, &e);
+    size_t words_needed = packed_words(&q.grid), floats_needed = q.positions_length;
+    size_t before = words_needed - q.grid.triples_length;
+    bool large = words_needed > 1 << 16, structs = by_structs(d);
+    bool small = words_needed + floats_needed < FAR_TOUCHED / 2;
+    entry of = structs ? ENTRY_pack_grid : ENTRY_pack;
+    if (large && !one_in(d, 4))
+        return;
+    uint32_t times = large ? 1 : 1 + below(d, 3), far = small ? below(d, 24) : 0;
+    buffer w = far == 1 || far == 2 ? any_far_buffer(d, before, words_needed)
+                                    : any_buffer(d, times * words_needed);
+    buffer f = far == 2 || far == 3 ? any_far_buffer(d, 0, floats_needed)
+                                    : any_buffer(d, times * floats_needed);
+    lent words = w.far ? lend_far(WORDS, any_garbage(d), w.length)
+                       : lend(WORDS, any_garbage(d), w.length, sizeof(uint32_t), one_in(d, 2));
+    lent floats = f.far ? lend_far(FLOATS, any_garbage(d), f.length)
+                        : lend(FLOATS, any_garbage(d), f.length, sizeof(float), one_in(d, 2));
+    koshirga_grid as_struct = grid_struct(&q);
+    for (uint32_t i = 0; i < times; i++) {
+        const grid *g = &q.grid;
+        koshirga_pack_answer expected =
+            expected_pack(e.positions, e.positions_length, e.pair, e.side, &e.grid, words.expected,
+                          w.length, w.taken, floats.expected, f.length, f.taken);
+        koshirga_pack_answer answer =
+            structs ? koshirga_pack_grid(&as_struct, words.at, w.length, w.taken, floats.at,
+                                         f.length, f.taken)
+                    : koshirga_pack(q.positions, q.positions_length, q.pair.factor, q.pair.margin,
+                                    q.side, g->cell_starts, g->cell_starts_length, g->cell_ids,
+                                    g->cell_ids_length, g->triangle_starts,
+                                    g->triangle_starts_length, g->triples, g->triples_length,
+                                    words.at, w.length, w.taken, floats.at, f.length, f.taken);
+        uint32_t row = answer.refusal;
+        hold_row(of, expected.refusal, row);
+        hold_index(of, row, expected.index, answer.index);
+        hold(of, same_records(expected.level, answer.level), "the record");
+        hold_query(of);
+        hold(of, as_expected(WORDS), "the words");
+        hold(of, as_expected(FLOATS), "the floats");
+        count(of, row);
+        count_record(of, &e, 0, row);
+        if (row == 3 || row == 17 || row == 18)
+            count_packed_starts(of, &e, row, answer.index);
+        if (row == 4 || row == 5)
+            count_packed_ids(of, &e, row, fits(w, words_needed) && fits(f, floats_needed));
+        if (row == 8)
+            count_no_room(of, w, words_needed, before, f, floats_needed);
+        if (row)
+            return;
+        hold_packed(of, &q, words.at, floats.at, answer.level);
+        count_place(of, w, words_needed, f, floats_needed, answer.level, i > 0);
+        count_packed_lists(of, &e);
+        count_packed_coordinates(of, &e);
+        count_packed(words_needed, floats_needed);
+        w.taken = answer.level.triples + q.grid.triples_length;
+        f.taken = answer.level.positions + 3 * (size_t)answer.level.vertices;
+    }
+}
+
+/* Ids at any places of starts that never fall; gives how many the last start counts. */
+static uint32_t fill_starts(draw *d, uint32_t *starts, size_t length, uint32_t most) {
+    uint32_t count = 0;
+    for (size_t i = 0; i < length; i++) {
+        starts[i] = count;
+        if (i + 1 < length && one_in(d, 4))
+            count += one_in(d, 24) ? LIST_MAX + below(d, 3) : below(d, most);
+    }
+    return count;
+}
+
+/* A small grid that a packing accepts, as no builder makes it. */
+static query packable_grid(draw *d) {
+    uint32_t vertices = 1 + below(d, one_in(d, 4) ? 40 : 6);
+    settings pair = {allowed_factor(d, vertices), below(d, MARGIN_MAX + 1)};
+    uint32_t side = grid_side(pair.factor, vertices);
+    query q = {query_positions, 3 * (size_t)vertices, pair, side, query_room(), pair, side};
+    grid *g = &q.grid;
+    g->cell_starts_length = 6 * (size_t)side * side + 1;
+    g->triangle_starts_length = vertices + 1;
+    bool no_ids = one_in(d, 12);
+    g->cell_ids_length = fill_starts(d, g->cell_starts, g->cell_starts_length, no_ids ? 1 : 4);
+    g->triples_length = 3 * fill_starts(d, g->triangle_starts, vertices + 1, 4);
+    for (size_t i = 0; i < g->cell_ids_length; i++)
+        g->cell_ids[i] = (uint16_t)below(d, vertices);
+    for (size_t i = 0; i < g->triples_length; i++)
+        g->triples[i] = (uint16_t)below(d, vertices);
+    for (size_t v = 0; v < vertices; v++) {
+        vector at = {1, signed_unit(d), one_in(d, 2) ? 0.0 : -0.0};
+        memcpy(q.positions + 3 * v, &at, sizeof at);
+    }
+    return q;
+}
+
+/* Puts coordinates at numbers that binary32 doesn't have; row 5 passes as a rule. */
+static void vary_coordinates(draw *d, query *q) {
+    for (uint32_t i = below(d, 6); i > 0; i--) {
+        double x = any_rounded(d);
+        while (fabs(x) >= 0x1p19 && isfinite(x))
+            x *= 0x1p-32;
+        q->positions[any_bits(d) % q->positions_length] = x;
+    }
+}
+
+/* Puts one thing of a grid wrong that a packing reads, which a query may not. */
+static void damage_packable(draw *d, query *q) {
+    grid *g = &q->grid;
+    uint32_t vertices = (uint32_t)(q->positions_length / 3);
+    size_t cells = g->cell_starts_length - 1;
+    uint16_t past = (uint16_t)(one_in(d, 2) ? vertices : UINT16_MAX);
+    switch (below(d, 20)) {
+    case 0: g->cell_starts[0] = 1 + below(d, 3); break;
+    case 1: g->cell_starts[cells] += below(d, 3) - 1; break;
+    case 2: change_length(d, &g->cell_ids_length); break;
+    case 3: g->triangle_starts[0] = 1 + below(d, 3); break;
+    case 4: g->triangle_starts[vertices] += below(d, 3) - 1; break;
+    case 5: change_length(d, &g->triples_length); break;
+    case 6: g->triples_length -= g->triples_length > 2 ? 3 : 0; break;
+    case 7: /* 3 times the last start, in 32 bits, is a length that is no multiple of 3 */
+        g->triples_length -= g->triples_length > 0;
+        g->triangle_starts[vertices] = (uint32_t)g->triples_length * UINT32_C(0xaaaaaaab);
+        break;
+    case 8:
+    case 9: damage_falls(d, g->cell_starts, cells); break;
+    case 10:
+    case 11: damage_falls(d, g->triangle_starts, vertices); break;
+    case 12:
+    case 13:
+        if (g->cell_ids_length > 0)
+            g->cell_ids[any_bits(d) % g->cell_ids_length] = past;
+        break;
+    case 14:
+    case 15:
+        if (g->triples_length > 0)
+            g->triples[any_bits(d) % g->triples_length] = past;
+        break;
+    case 16: q->positions[any_bits(d) % q->positions_length] = any_double(d); break;
+    case 17: {
+        vector v = any_direction(d);
+        memcpy(q->positions + 3 * below(d, vertices), &v, sizeof v);
+        break;
+    }
+    case 18:
+        if (one_in(d, 2))
+            change_length(d, one_in(d, 2) ? &g->cell_starts_length : &g->triangle_starts_length);
+        else
+            change_side(d, &q->side);
+        break;
+    default: change_pair(d, q); break;
+    }
+}
+
 /* ---- scenarios */
+
+static void packings(draw *d) {
+    query q = packable_grid(d);
+    vary_coordinates(d, &q);
+    call_pack(d, &q);
+    for (int i = 0; i < 3; i++) {
+        if (q.positions_length < 3 || q.grid.cell_starts_length < 2 ||
+            q.grid.triangle_starts_length != q.positions_length / 3 + 1)
+            return; /* what is left isn't damaged as a whole */
+        damage_packable(d, &q);
+        call_pack(d, &q);
+    }
+}
 
 static void meshes(draw *d) {
     mesh m = any_mesh(d);
@@ -1328,9 +1792,11 @@ static void meshes(draw *d) {
     if (!call_build_grid(d, &m, &q))
         return;
     call_queries(d, &q, 3);
+    call_pack(d, &q);
     query changed = q;
     change_pair(d, &changed);
     call_queries(d, &changed, 1);
+    call_pack(d, &changed);
     for (int i = 0; i < 2; i++) {
         vector v = any_direction(d);
         damage_query(d, &q, v);
@@ -1339,6 +1805,7 @@ static void meshes(draw *d) {
             change_pair(d, &changed);
         query e, lent_query = lend_query(d, &changed, &e);
         call_both(d, &lent_query, &e, v);
+        call_pack(d, &changed);
         if (q.positions_length == 0 || q.side != q.built_side || q.grid.cell_starts_length == 0 ||
             q.grid.triangle_starts_length == 0)
             return; /* nothing is left to be damaged */
@@ -1378,7 +1845,7 @@ int LLVMFuzzerInitialize(int *argc, char ***argv) {
 
 int LLVMFuzzerTestOneInput(const uint8_t *bytes, size_t length) {
     draw d = draw_from(bytes, length);
-    switch (below(&d, 21)) {
+    switch (below(&d, 23)) {
     case 0: repeat(arithmetic, 3, &d); break;
     case 1: repeat(vectors, 4, &d); break;
     case 2: repeat(weights, 6, &d); break;
@@ -1395,6 +1862,8 @@ int LLVMFuzzerTestOneInput(const uint8_t *bytes, size_t length) {
         repeat(ordered_operands, 2, &d);
         repeat(ordered_weights, 2, &d);
         break;
+    case 13:
+    case 14: repeat(packings, 2, &d); break;
     default: meshes(&d); break;
     }
     tally_input();

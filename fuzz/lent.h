@@ -9,9 +9,13 @@
 #include <stdbool.h>
 #include <stddef.h>
 
-/* How many there are, and the bytes of the longest: 147 ids of two bytes for each of 65,536
- * vertices, and what is beside them. */
-enum { LENT_MAX = 11, LENT_BYTES = 20 << 20 };
+/* How many there are, and the bytes of the longest: words of four bytes, for 147 ids for each of
+ * 65,536 vertices and what is packed beside them. */
+enum { LENT_MAX = 11, LENT_BYTES = 56 << 20 };
+
+/* Of a far slice the last so many elements can be touched; it has so many at most. */
+#define FAR_TOUCHED ((size_t)1 << 14)
+#define FAR_MAX (((size_t)1 << 32) + FAR_TOUCHED)
 
 typedef struct lent {
     void *at;       /* what the engine gets; never null */
@@ -23,6 +27,10 @@ typedef struct lent {
  * that can't be read. `behind`: the first element behind the page, and not the last one before it.
  */
 lent lend(int which, const void *from, size_t length, size_t size, bool behind);
+
+/* Makes slice `which` of FAR_TOUCHED to FAR_MAX elements of four bytes, with `from` as the content
+ * of the last FAR_TOUCHED. Those before can't be read or written, nor can their copy. */
+lent lend_far(int which, const void *from, size_t length);
 
 /* Whether slice `which` is what its copy says, byte for byte, and the bytes about it are untouched.
  * A NaN too keeps its bits: no call writes one that it has worked out, and what is moved stays. */

@@ -1,6 +1,6 @@
-/* Document 01, as change requests W-201 and W-207 to W-210 leave it, read a second time, in C.
- * expected_NAME says what koshirga_NAME returns, and writes what it leaves into the slices that it
- * is given, and into the mark. It follows the text of these papers and nothing of the proved code.
+/* What each call is to do, read a second time, in C, from the text that docs/DATASHEET.md puts into
+ * steps. expected_NAME says what koshirga_NAME returns, and writes what it leaves into the slices
+ * that it is given, and into the mark. It follows the text and nothing of the proved code.
  */
 #ifndef READING_H
 #define READING_H
@@ -87,11 +87,42 @@
  *  76. a NaN beside a number makes a minimum NaN, as in minimum (IEEE 754-2019, 9.6)
  *  77. a signaling NaN does so, a quiet one doesn't, as in minNum (IEEE 754-2008, 5.3.1)
  *  78. the third weight is left out of every least
- *  79. a least of +0 exceeds one of -0, and a later triangle is kept for it */
+ *  79. a least of +0 exceeds one of -0, and a later triangle is kept for it
+ *  80. a number halfway between two of binary32 is rounded away from zero
+ *  81. every number is rounded toward zero to binary32
+ *  82. a result below the least normal number of binary32 is a zero
+ *  83. no finite number is rounded to an infinity of binary32
+ *  84. every zero of binary32 is +0
+ *  85. a packing tests each start list for 17 and 18 before the next one
+ *  86. a packing takes the last triangle start for a count of ids
+ *  87. a packing leaves out row 17 for triangle starts
+ *  88. a packing tests the triangle starts for row 18 before the cell starts
+ *  89. a packing leaves out row 18 for triangle starts
+ *  90. a packing gives no index
+ *  91. a packing refuses a cell of over 32 ids
+ *  92. a packing leaves out row 4 for cell ids
+ *  93. a packing leaves out row 4 for triples
+ *  94. a packing leaves out row 5
+ *  95. row 5 before row 4 in a packing
+ *  96. row 8 before row 5 in a packing
+ *  97. a packing counts taken places modulo 2^64
+ *  98. a packing has no row 8 for floats
+ *  99. a packing leaves one place free behind it
+ * 100. a packing takes offsets modulo 2^32
+ * 101. the end of the last packed list is at most 4294967295
+ * 102. the offset of packed positions may be above 4294967295
+ * 103. a packing that row 8 refuses has a record
+ * 104. a packing that row 8 refuses for its floats has written its words
+ * 105. packed starts count from the beginning of the words
+ * 106. a packing begins at the first place, whatever is taken
+ * 107. triangle starts are packed before cell ids
+ * 108. offsets of cell ids and triangle starts are exchanged in a record
+ * 109. the offset of packed positions counts vertices
+ * 110. packed coordinates are rounded toward zero */
 #ifndef MISREAD
 #define MISREAD 0
 #endif
-enum { MISREADINGS = 79 };
+enum { MISREADINGS = 110 };
 
 enum { FREQUENCY_MAX = 80, VERTEX_MAX = 65536, LIST_MAX = 32, MARGIN_MAX = 3, ROWS = 20 };
 
@@ -158,6 +189,10 @@ int32_t expected_total_cmp(uint64_t x, uint64_t y);
 uint64_t expected_rank(double x);
 double expected_minimum_number(double x, double y);
 koshirga_conversion_answer expected_to_i64(double x);
+
+/* The bits of a binary32 number. */
+uint32_t float_bits(float x);
+float expected_to_f32(double x);
 
 double expected_dot(koshirga_vector3 a, koshirga_vector3 b);
 koshirga_vector3 expected_cross(koshirga_vector3 a, koshirga_vector3 b);
@@ -243,5 +278,13 @@ koshirga_nearest_answer expected_grid_nearest(const double *positions, size_t po
 koshirga_located_answer expected_grid_locate(const double *positions, size_t positions_length,
                                              settings pair, uint32_t side, const grid *g,
                                              koshirga_vector3 direction);
+
+/* How many words a grid is packed into. */
+size_t packed_words(const grid *g);
+
+koshirga_pack_answer expected_pack(const double *positions, size_t positions_length, settings pair,
+                                   uint32_t side, const grid *g, uint32_t *words,
+                                   size_t words_length, size_t words_taken, float *floats,
+                                   size_t floats_length, size_t floats_taken);
 
 #endif

@@ -16,7 +16,7 @@ static const char *const NAMES[ENTRIES] = {ENTRY_POINTS(NAME)};
 /* The calls whose ways are counted, as columns. Which of them can meet a way: a bit each, the first
  * the lowest. */
 enum {
-    COLUMNS = 10,
+    COLUMNS = 12,
     MINIMUM = 1,
     CONVERSION = 2,
     WEIGHTS = 4,
@@ -26,9 +26,12 @@ enum {
     MARKING = 64,
     BUILDER = 128,
     LOCATION = 512,
+    ROUNDING = 1024,
+    PACKING = 2048,
     WHOLE = WALK | RENUMBERING | MARKING | BUILDER,
     QUERIES = 256 | LOCATION,
-    PAIRS = BUILDER | QUERIES,
+    RECORDS = QUERIES | PACKING,
+    PAIRS = BUILDER | RECORDS,
     ENDS = CONVERSION | BUILDER,
     MARKS = LATTICE | RENUMBERING | MARKING,
     DRAWN = MINIMUM | WEIGHTS,
@@ -38,7 +41,7 @@ enum {
 static const entry WITH_WAYS[COLUMNS] = {ENTRY_minimum_number, ENTRY_to_i64,     ENTRY_least_weight,
                                          ENTRY_lattice,        ENTRY_walk,       ENTRY_renumber,
                                          ENTRY_mark_ascending, ENTRY_build_grid, ENTRY_grid_nearest,
-                                         ENTRY_grid_locate};
+                                         ENTRY_grid_locate,    ENTRY_to_f32,     ENTRY_pack};
 #define WAY(name, calls, text) {calls, text},
 static const struct {
     unsigned calls;
@@ -52,6 +55,7 @@ static uint64_t all_calls, inputs, facts;
 static bool built[FREQUENCY_MAX + 1];
 static uint32_t least_side = UINT32_MAX, greatest_side, most_held;
 static uint64_t builds_with_held, renumbered_lists, renumbered_falling;
+static uint64_t packed_words_sum, packed_floats_sum;
 static uint64_t calls_limit = UINT64_MAX;
 static double seconds_limit = 1e18, begun;
 
@@ -81,6 +85,11 @@ void count_built(uint32_t side, uint32_t held) {
 void count_renumbered(size_t lists, size_t falling) {
     renumbered_lists += lists;
     renumbered_falling += falling;
+}
+
+void count_packed(size_t words, size_t floats) {
+    packed_words_sum += words;
+    packed_floats_sum += floats;
 }
 
 void hold(entry of, bool fact, const char *what) {
@@ -207,11 +216,13 @@ static void print_ways(const char *title, unsigned of, int first, int end) {
 
 static void print_tables(double seconds) {
     print_rows();
-    print_ways("starts refused, by row", WHOLE | QUERIES, 0, WAY_PAIRS);
+    print_ways("starts refused, by row", WHOLE | RECORDS, 0, WAY_PAIRS);
     print_ways("pairs, by row (0: accepted)", PAIRS, WAY_PAIRS, WAY_CONVERSIONS);
     print_ways("conversions", ENDS, WAY_CONVERSIONS, WAY_MARKS);
     print_ways("the mark (0: accepted), and lists", MARKS, WAY_MARKS, WAY_MINIMA);
-    print_ways("minima", MINIMA, WAY_MINIMA, WAY_COUNT);
+    print_ways("minima", MINIMA, WAY_MINIMA, WAY_ROUNDINGS);
+    print_ways("rounded to binary32", ROUNDING, WAY_ROUNDINGS, WAY_PACKINGS);
+    print_ways("packed (0: accepted)", PACKING, WAY_PACKINGS, WAY_COUNT);
     int frequencies = 0;
     for (int n = 1; n <= FREQUENCY_MAX; n++)
         frequencies += built[n];
@@ -221,6 +232,8 @@ static void print_tables(double seconds) {
            builds_with_held, most_held);
     printf("%" PRIu64 " of %" PRIu64 " renumbered lists fell before they were sorted\n",
            renumbered_falling, renumbered_lists);
+    printf("%" PRIu64 " words and %" PRIu64 " floats packed\n", packed_words_sum,
+           packed_floats_sum);
     printf("%" PRIu64 " calls from %" PRIu64 " inputs, %.0f s (%.0f s of processor time)\n",
            all_calls, inputs, seconds, seconds_of(CLOCK_PROCESS_CPUTIME_ID));
     printf("%" PRIu64 " facts held, 0 faults, 0 differences\n", facts);

@@ -9,20 +9,21 @@
 
 /* Every function of koshirga.h, in its order. */
 #define ENTRY_POINTS(X)                                                                           \
-    X(total_cmp) X(rank) X(minimum_number) X(floor) X(ceil) X(to_i64) X(mul_add) X(sqrt)          \
-    X(sqrt_by_digits) X(dot) X(cross) X(minus) X(plus) X(scale) X(divide) X(norm_squared)         \
-    X(norm) X(normalize) X(direction) X(projected_barycentric) X(least_weight) X(walk)            \
-    X(renumber) X(mark_ascending) X(choose_face) X(analytic_locate) X(analytic_nearest)           \
-    X(lattice) X(build_grid) X(grid_nearest) X(grid_locate) X(mark_ascending_of) X(walk_mesh)     \
-    X(build_grid_of) X(nearest_in) X(locate_in)
+    X(total_cmp) X(rank) X(minimum_number) X(floor) X(ceil) X(to_i64) X(to_f32) X(mul_add)        \
+    X(sqrt) X(sqrt_by_digits) X(dot) X(cross) X(minus) X(plus) X(scale) X(divide)                 \
+    X(norm_squared) X(norm) X(normalize) X(direction) X(projected_barycentric) X(least_weight)    \
+    X(walk) X(renumber) X(mark_ascending) X(choose_face) X(analytic_locate) X(analytic_nearest)   \
+    X(lattice) X(build_grid) X(grid_nearest) X(grid_locate) X(pack) X(mark_ascending_of)          \
+    X(walk_mesh) X(build_grid_of) X(nearest_in) X(locate_in) X(pack_grid)
 
 #define ENTRY(name) ENTRY_##name,
 typedef enum entry { ENTRY_POINTS(ENTRY) ENTRIES } entry;
 #undef ENTRY
 
 /* Ways in which starts are refused, each with the calls that can meet it: those that read a whole
- * mesh, both queries, or the location alone. A run must meet each way in each of its calls. In a
- * whole mesh the start at 1 can't fall alone: the one before it would not be 0, and that is 17. */
+ * mesh, both queries, these and the packing, or the location alone. A run must meet each way in
+ * each of its calls. In a whole mesh the start at 1 can't fall alone: the one before it would not
+ * be 0, and that is 17. */
 #define START_WAYS(X)                                                                              \
     X(LENGTH, WHOLE, "3: wrong length")                                                            \
     X(LENGTH_AND_FALL, WHOLE, "3: wrong length, and a start falls")                                \
@@ -37,8 +38,8 @@ typedef enum entry { ENTRY_POINTS(ENTRY) ENTRIES } entry;
     X(FALL_AGAIN, WHOLE, "18: and a later start falls")                                            \
     X(FALL_AND_LONG, WHOLE, "18: and a list is over 32")                                           \
     X(LONG_LIST, WHOLE, "3: a list over 32")                                                       \
-    X(CELL_LENGTH, QUERIES, "3: wrong length of cell starts")                                      \
-    X(VERTEX_LENGTH, QUERIES, "3: wrong length of triangle starts")                                \
+    X(CELL_LENGTH, RECORDS, "3: wrong length of cell starts")                                      \
+    X(VERTEX_LENGTH, RECORDS, "3: wrong length of triangle starts")                                \
     X(CELL_FIRST, QUERIES, "18: in the cell, at 1")                                                \
     X(CELL_MIDDLE, QUERIES, "18: in the cell, between")                                            \
     X(CELL_LAST, QUERIES, "18: in the cell, at the last start")                                    \
@@ -52,8 +53,9 @@ typedef enum entry { ENTRY_POINTS(ENTRY) ENTRIES } entry;
     X(VERTEX_NOT_FIRST, LOCATION, "18: at the vertex, behind another fall")                        \
     X(PAST_TRIPLES, LOCATION, "3: past the triples")
 
-/* The same for pairs, and for what else is wrong beside them: in the builder and both queries, in
- * the builder alone, or in the queries alone. 0: accepted. */
+/* The same for pairs, and for what else is wrong beside them: in the builder, both queries and the
+ * packing, in the builder alone, in the queries and the packing, or in the queries alone. 0:
+ * accepted. */
 #define PAIR_WAYS(X)                                                                               \
     X(FACTOR_NAN, PAIRS, "19: a NaN")                                                              \
     X(FACTOR_INFINITE, PAIRS, "19: an infinity")                                                   \
@@ -71,15 +73,15 @@ typedef enum entry { ENTRY_POINTS(ENTRY) ENTRIES } entry;
     X(POSITION_AND_MARGIN, BUILDER, "5: and a margin above 3")                                     \
     X(FACTOR_AND_ROOM, BUILDER, "19: and too little room for triangles")                           \
     X(MARGIN_AND_ROOM, BUILDER, "20: and too little room for triangles")                           \
-    X(COUNT_AND_FACTOR, QUERIES, "2: positions, and a factor that 19 refuses")                     \
-    X(COUNT_AND_MARGIN, QUERIES, "2: positions, and a margin above 3")                             \
-    X(FACTOR_AND_SIDE, QUERIES, "19: and g outside 2 to 420")                                      \
-    X(MARGIN_AND_SIDE, QUERIES, "20: and g isn't the side")                                        \
-    X(PAIR_AND_LENGTH, QUERIES, "19, 20: and a wrong length of starts")                            \
+    X(COUNT_AND_FACTOR, RECORDS, "2: positions, and a factor that 19 refuses")                     \
+    X(COUNT_AND_MARGIN, RECORDS, "2: positions, and a margin above 3")                             \
+    X(FACTOR_AND_SIDE, RECORDS, "19: and g outside 2 to 420")                                      \
+    X(MARGIN_AND_SIDE, RECORDS, "20: and g isn't the side")                                        \
+    X(PAIR_AND_LENGTH, RECORDS, "19, 20: and a wrong length of starts")                            \
     X(PAIR_AND_DIRECTION, QUERIES, "19, 20: and a direction that 9 refuses")                       \
-    X(SIDE, QUERIES, "2: g isn't the side")                                                        \
-    X(SIDE_OF_USUAL, QUERIES, "2: g is the side of 1.2 alone")                                     \
-    X(SIDE_BUT_LENGTH, QUERIES, "3: factor and g changed together")                                \
+    X(SIDE, RECORDS, "2: g isn't the side")                                                        \
+    X(SIDE_OF_USUAL, RECORDS, "2: g is the side of 1.2 alone")                                     \
+    X(SIDE_BUT_LENGTH, RECORDS, "3: factor and g changed together")                                \
     X(LEAST, PAIRS, "0: factor 0.5")                                                               \
     X(LEAST_NEXT, PAIRS, "0: the double above 0.5")                                                \
     X(GREATEST_NEXT, PAIRS, "0: the double below 4.0")                                             \
@@ -90,8 +92,8 @@ typedef enum entry { ENTRY_POINTS(ENTRY) ENTRIES } entry;
     X(MARGIN_2, PAIRS, "0: margin 2")                                                              \
     X(MARGIN_3, PAIRS, "0: margin 3")                                                              \
     X(USUAL, PAIRS, "0: the usual pair")                                                           \
-    X(FACTOR_CHANGED, QUERIES, "0: another factor than at building")                               \
-    X(MARGIN_CHANGED, QUERIES, "0: another margin than at building")
+    X(FACTOR_CHANGED, RECORDS, "0: another factor than at building")                               \
+    X(MARGIN_CHANGED, RECORDS, "0: another margin than at building")
 
 /* The same for conversions to a whole number: in the conversion itself, in it and in an accepted
  * build whose placing had one, or in a build that was refused. */
@@ -159,18 +161,110 @@ typedef enum entry { ENTRY_POINTS(ENTRY) ENTRIES } entry;
     X(LOWER_ZERO_KEPT, LOCATION, "-0 is kept, a later triangle has +0")                            \
     X(UPPER_ZERO_KEPT, LOCATION, "+0 is kept, a later triangle has -0")
 
-#define WAYS(X) START_WAYS(X) PAIR_WAYS(X) CONVERSION_WAYS(X) MARK_WAYS(X) MINIMUM_WAYS(X)
+/* The same for numbers rounded to binary32. */
+#define ROUNDING_WAYS(X)                                                                           \
+    X(EXACT, ROUNDING, "a number of binary32")                                                     \
+    X(TOWARD_ZERO, ROUNDING, "rounded toward zero")                                                \
+    X(AWAY, ROUNDING, "rounded away from zero")                                                    \
+    X(TIE_TOWARD_ZERO, ROUNDING, "a tie, rounded toward zero")                                     \
+    X(TIE_AWAY, ROUNDING, "a tie, rounded away from zero")                                         \
+    X(CARRIED, ROUNDING, "carried to a power of two")                                              \
+    X(SUBNORMAL, ROUNDING, "to a subnormal number")                                                \
+    X(SUBNORMAL_TIE, ROUNDING, "to a subnormal number, a tie")                                     \
+    X(LEAST_NORMAL, ROUNDING, "carried to the least normal number")                                \
+    X(ZERO_TIE, ROUNDING, "2^-150, to a zero")                                                     \
+    X(ZERO, ROUNDING, "below 2^-150, to a zero")                                                   \
+    X(LOWER_ZERO, ROUNDING, "a negative number, to -0")                                            \
+    X(ZERO_STAYS, ROUNDING, "-0")                                                                  \
+    X(GREATEST_FLOAT, ROUNDING, "to the greatest number, and was above")                           \
+    X(OVERFLOW_TIE, ROUNDING, "2^128 - 2^103, to an infinity")                                     \
+    X(OVERFLOW, ROUNDING, "above it, to an infinity")                                              \
+    X(INFINITY_KEPT, ROUNDING, "an infinity")                                                      \
+    X(ROUNDED_NAN, ROUNDING, "a NaN")
+
+/* The same for what is packed, and for how it is refused, beside the pair. */
+#define PACKING_WAYS(X)                                                                            \
+    X(NONE_TAKEN, PACKING, "0: no place is taken of either")                                       \
+    X(BOTH_TAKEN, PACKING, "0: places are taken of both")                                          \
+    X(BEHIND_GRID, PACKING, "0: behind another grid")                                              \
+    X(FULL, PACKING, "0: no place is left of either")                                              \
+    X(SURPLUS, PACKING, "0: places are left of both")                                              \
+    X(NO_IDS, PACKING, "0: no cell has an id")                                                     \
+    X(NO_TRIPLES, PACKING, "0: no triples")                                                        \
+    X(LARGE_CELL, PACKING, "0: a cell with over 32 ids")                                           \
+    X(MANY_TRIANGLES, PACKING, "0: a vertex with over 32 triangles")                               \
+    X(FALLING_IDS, PACKING, "0: a cell whose ids don't ascend")                                    \
+    X(FALLING_TRIPLE, PACKING, "0: a triple that doesn't ascend")                                  \
+    X(PACKED_INEXACT, PACKING, "0: a coordinate that is rounded")                                  \
+    X(PACKED_TIE, PACKING, "0: a coordinate that is a tie")                                        \
+    X(PACKED_SUBNORMAL, PACKING, "0: a coordinate, to a subnormal number")                         \
+    X(PACKED_LOWER_ZERO, PACKING, "0: a coordinate, to -0")                                        \
+    X(OFFSET_GREATEST, PACKING, "0: the last list at 4294967295")                                  \
+    X(OFFSET_BEFORE, PACKING, "0: the last list below, its end above")                             \
+    X(FLOATS_GREATEST, PACKING, "0: the positions at 4294967295")                                  \
+    X(CELLS_FIRST, PACKING, "17: the first cell start isn't 0")                                    \
+    X(CELLS_BELOW, PACKING, "17: the last is below the count of ids")                              \
+    X(CELLS_ABOVE, PACKING, "17: the last is above the count of ids")                              \
+    X(CELLS_AND_TRIANGLES, PACKING, "17: of cells, and of triangles")                              \
+    X(TRIANGLES_FIRST, PACKING, "17: the first triangle start isn't 0")                            \
+    X(TRIANGLES_BELOW, PACKING, "17: triples behind the last one")                                 \
+    X(TRIANGLES_ABOVE, PACKING, "17: the last one past the triples")                               \
+    X(TRIANGLES_THIRD, PACKING, "17: triples cut within one")                                      \
+    X(TRIANGLES_WRAP, PACKING, "17: three times the last fits in 32 bits")                        \
+    X(TRIANGLES_AND_FALL, PACKING, "17: of triangles, and a cell start falls")                     \
+    X(CELLS_FALL_FIRST, PACKING, "18: in the cells, at 2")                                         \
+    X(CELLS_FALL_MIDDLE, PACKING, "18: in the cells, between")                                     \
+    X(CELLS_FALL_LAST, PACKING, "18: in the cells, at the last start")                             \
+    X(CELLS_FALL_AGAIN, PACKING, "18: in the cells, and a later one falls")                        \
+    X(BOTH_FALL, PACKING, "18: in the cells, and in the triangles")                                \
+    X(TRIANGLES_FALL_FIRST, PACKING, "18: in the triangles, at 2")                                 \
+    X(TRIANGLES_FALL_MIDDLE, PACKING, "18: in the triangles, between")                             \
+    X(TRIANGLES_FALL_LAST, PACKING, "18: in the triangles, at the last start")                     \
+    X(TRIANGLES_FALL_AGAIN, PACKING, "18: in the triangles, and a later one")                      \
+    X(FALL_AND_ID, PACKING, "18: and an id that 4 refuses")                                        \
+    X(CELL_ID, PACKING, "4: a cell's id")                                                          \
+    X(TRIPLE_ID, PACKING, "4: a triple's")                                                         \
+    X(BOTH_IDS, PACKING, "4: ids of both")                                                         \
+    X(ID_AND_POSITION, PACKING, "4: and a position that 5 refuses")                                \
+    X(POSITION, PACKING, "5: a position")                                                          \
+    X(POSITION_NAN, PACKING, "5: a position with a NaN")                                           \
+    X(POSITION_AND_ROOM, PACKING, "5: and too little room")                                        \
+    X(WORD_SHORT, PACKING, "8: one word too few")                                                  \
+    X(FLOAT_SHORT, PACKING, "8: one float too few")                                                \
+    X(WORDS_FULL, PACKING, "8: all words are taken")                                               \
+    X(FLOATS_FULL, PACKING, "8: all floats are taken")                                             \
+    X(WORDS_PAST, PACKING, "8: one word more is taken than there are")                             \
+    X(FLOATS_PAST, PACKING, "8: one float more is taken")                                          \
+    X(WORDS_ALL, PACKING, "8: 2^64 - 1 words are taken")                                           \
+    X(FLOATS_ALL, PACKING, "8: 2^64 - 1 floats are taken")                                         \
+    X(WORDS_WRAP, PACKING, "8: words whose sum wraps to a fitting one")                            \
+    X(FLOATS_WRAP, PACKING, "8: floats whose sum wraps so")                                        \
+    X(OFFSET_ABOVE, PACKING, "8: the last list at 4294967296")                                     \
+    X(FLOATS_ABOVE, PACKING, "8: the positions at 4294967296")                                     \
+    X(ALL_ABOVE, PACKING, "8: the first list at 4294967296")
+
+#define WAYS(X)                                                                                    \
+    START_WAYS(X)                                                                                  \
+    PAIR_WAYS(X)                                                                                   \
+    CONVERSION_WAYS(X)                                                                             \
+    MARK_WAYS(X)                                                                                   \
+    MINIMUM_WAYS(X)                                                                                \
+    ROUNDING_WAYS(X)                                                                               \
+    PACKING_WAYS(X)
 
 #define WAY(name, calls, text) WAY_##name,
 typedef enum way { WAYS(WAY) WAY_COUNT } way;
 #undef WAY
 
-/* The first way of the pairs, of the conversions, of the marks and of the minima. */
+/* The first way of the pairs, of the conversions, of the marks, of the minima, of the roundings and
+ * of the packings. */
 enum {
     WAY_PAIRS = WAY_FACTOR_NAN,
     WAY_CONVERSIONS = WAY_KEPT,
     WAY_MARKS = WAY_MARK_SET,
-    WAY_MINIMA = WAY_UPPER_ZERO_FIRST
+    WAY_MINIMA = WAY_UPPER_ZERO_FIRST,
+    WAY_ROUNDINGS = WAY_EXACT,
+    WAY_PACKINGS = WAY_NONE_TAKEN
 };
 
 /* The call was answered by this row; 0: accepted. */
@@ -187,6 +281,9 @@ void count_built(uint32_t side, uint32_t held);
 
 /* A mesh of so many lists was renumbered, of which so many fell before they were sorted. */
 void count_renumbered(size_t lists, size_t falling);
+
+/* A grid was packed into so many words and floats. */
+void count_packed(size_t words, size_t floats);
 
 /* Ends the run unless the fact holds. */
 void hold(entry of, bool fact, const char *what);

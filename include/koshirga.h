@@ -1,13 +1,15 @@
 /* Koshirga: the calls of the archive libc_api.a, which `tools/archive` makes. A whole program
- * that uses them is examples/balloon.c, and examples/exporter.c has a mesh from outside, refused
- * and then mended; docs/DATASHEET.md says what every call does, step by step. Five calls at the end
- * take mesh and grid as structs; they are compiled with the caller's code and call the archive's.
+ * that uses them is examples/balloon.c, examples/exporter.c has a mesh from outside, refused and
+ * then mended, and examples/buffers.c packs two balloons for the graphics card; docs/DATASHEET.md
+ * says what every call does, step by step. Six calls at the end take mesh and grid as structs; they
+ * are compiled with the caller's code and call the archive's.
  *
  * Every function returns for every argument and keeps no state. All floating-point data is
- * binary64. Each operation is rounded once, by the clauses of IEEE 754-2019 that the function's
- * comment names; a product and a sum are fused only where a comment says so. Arithmetic on a NaN
- * gives a NaN (6.2); sign and payload of a NaN result are free. The caller's floating-point
- * environment is the default one: rounding to nearest, subnormals not flushed to zero.
+ * binary64, but for packed positions, which are binary32. Each operation is rounded once, by the
+ * clauses of IEEE 754-2019 that the function's comment names; a product and a sum are fused only
+ * where a comment says so. Arithmetic on a NaN gives a NaN (6.2); sign and payload of a NaN result
+ * are free. The caller's floating-point environment is the default one: rounding to nearest,
+ * subnormals not flushed to zero.
  *
  * Slices. A slice is a pointer and the number of its elements. The pointer of an empty slice is not
  * null and is not read. Slices that are written overlap no other. The caller lends all memory. A
@@ -35,6 +37,10 @@
  *     v are the triples from number triangle_starts[v] up to triangle_starts[v + 1]; triple t is
  *     the ascending ids triples[3t], triples[3t + 1] and triples[3t + 2]. Positions are lent beside
  *     it.
+ *   Words and floats: two slices in which grids are packed one behind another, buffers for the
+ *     graphics card. A grid's level record says where it stands in them: vertex count, side, and
+ *     five offsets, each in elements of its own slice. How many places of either are taken is the
+ *     caller's to keep.
  *
  * Target. x86-64 Linux: an ELF object, the System V calling convention, instructions of the first
  * x86-64 processors (SSE2) alone. The code is position independent: it links with -pie, with
@@ -52,7 +58,7 @@
 #include <stdint.h>
 
 #define KOSHIRGA_VERSION_MAJOR 0
-#define KOSHIRGA_VERSION_MINOR 7
+#define KOSHIRGA_VERSION_MINOR 8
 #define KOSHIRGA_VERSION_PATCH 0
 
 #ifdef __cplusplus
@@ -78,13 +84,16 @@ extern "C" {
  * positions, then the grid's pair, and row 2 once more for the side. It tests both start lists for
  * their lengths (3), and then only the part that it reads: whether it falls (18), whether it runs
  * past its ids or triples (3). Its index is 1 more than the cell or the vertex of that part,
- * whatever falls before. No query returns 17. */
+ * whatever falls before. No query returns 17. A packing begins as a query does, with 2, 19, 20, 2
+ * and 3 for the lengths, and then reads all lists whole, with no limit of 32: 17, 18, 4. Each of
+ * these tests the cells first, so cell_starts before triangle_starts and cell_ids before triples;
+ * which list falls, 18 doesn't say. */
 enum koshirga_refusal {
     KOSHIRGA_ACCEPTED = 0,
     /* The frequency is below 1 or above 80. */
     KOSHIRGA_FREQUENCY = 1,
-    /* No vertex, over 65536, positions not three a vertex; or, in a query, a side that isn't that
-     * of count and factor. */
+    /* No vertex, over 65536, positions not three a vertex; or, in a query or a packing, a side that
+     * isn't that of count and factor. */
     KOSHIRGA_COUNT = 2,
     /* A start list has a wrong length; or a neighbour list is over 32; or, in a query, the part
      * that is read runs past cell_ids or triples. */
@@ -97,7 +106,8 @@ enum koshirga_refusal {
     KOSHIRGA_PERMUTATION = 6,
     /* entries_per_vertex is neither 1 nor the vertex count. */
     KOSHIRGA_ENTRIES_PER_VERTEX = 7,
-    /* A slice that is filled, scratch or the id table is too short. */
+    /* A slice that is filled, scratch or the id table is too short. In a packing: fewer places are
+     * behind the taken ones than are written, or an offset is above 4294967295. */
     KOSHIRGA_ROOM = 8,
     /* The direction isn't finite, or its length is below 2^-20 or above 2^20. */
     KOSHIRGA_DIRECTION = 9,
@@ -109,11 +119,13 @@ enum koshirga_refusal {
     KOSHIRGA_NO_TRIANGLE = 12,
     /* The walk doesn't reach a vertex: the mesh is in several parts. */
     KOSHIRGA_UNREACHED = 13,
-    /* The starts don't span the entries: the first isn't 0, or the last isn't entries_length. */
+    /* The starts don't span the entries: the first isn't 0, or the last isn't entries_length. In a
+     * packing likewise cell_starts with cell_ids_length, and triangle_starts, three times whose
+     * last has to be triples_length. */
     KOSHIRGA_STARTS_SPAN = 17,
     /* A start is below the one before it: starts[index] < starts[index - 1], so that the neighbours
-     * of vertex index - 1 would end before they begin. In a query likewise cell_starts, or
-     * triangle_starts. */
+     * of vertex index - 1 would end before they begin. In a query or a packing likewise
+     * cell_starts, or triangle_starts. */
     KOSHIRGA_STARTS_FALL = 18,
     /* A grid's factor isn't finite, or is below 0.5 or above 4.0. */
     KOSHIRGA_FACTOR = 19,
@@ -173,6 +185,11 @@ typedef struct koshirga_conversion_answer {
  * The clause leaves whole open in the last two. A number at an end doesn't say that it was held:
  * -2^63 comes of -2^63, which is kept, and of -2^64, which is held. */
 koshirga_conversion_answer koshirga_to_i64(double x);
+
+/* x rounded to binary32, to nearest, ties to even: convertFormat (IEEE 754-2019, 5.4.2 and 4.3.1).
+ * From 2^128 - 2^103 on, in magnitude, the result is an infinity (4.3.1), an infinity stays (6.1),
+ * and a zero result has the sign of x (6.3). */
+float koshirga_to_f32(double x);
 
 /* a*b + c, exact and then rounded once, to nearest, ties to even: fusedMultiplyAdd (IEEE 754-2019,
  * 5.4.1 and 4.3.1). An exact zero sum of opposite signs is +0, and a result that is rounded to zero
@@ -447,6 +464,45 @@ koshirga_located_answer koshirga_grid_locate(const double *positions, size_t pos
                                              const uint16_t *triples, size_t triples_length,
                                              koshirga_vector3 direction);
 
+/* ---- buffers for the graphics card */
+
+/* Where a packed grid stands: seven numbers, in this order. */
+typedef struct koshirga_level_record {
+    uint32_t vertices, side;
+    uint32_t cell_starts, cell_ids, triangle_starts, triples; /* offsets in words */
+    uint32_t positions;                                       /* the offset in floats */
+} koshirga_level_record;
+
+typedef struct koshirga_pack_answer {
+    uint32_t refusal;
+    koshirga_level_record level; /* seven zeros where the call is refused */
+    size_t index;                /* that of row 18 */
+} koshirga_pack_answer;
+
+/* Writes a grid behind the first words_taken of the words and its positions behind the first
+ * floats_taken of the floats; what stands before and behind is untouched. The words get the cell
+ * starts, the cell ids, the triangle starts and the triples, one list behind another, each element
+ * as it is: starts go on counting from the grid's own first id or triple. The floats get the
+ * coordinates, each rounded by koshirga_to_f32 (IEEE 754-2019, 5.4.2 and 4.3.1); all of them are
+ * finite, as is proved. Places needed behind the taken ones:
+ *   words   cell_starts_length + cell_ids_length + triangle_starts_length + triples_length
+ *   floats  positions_length
+ * The next grid goes behind it: its words_taken is level.triples + triples_length, added as size_t,
+ * and its floats_taken is level.positions + 3*level.vertices.
+ *
+ * The lists are read whole, and are cut to their lengths as for a query; whether ids or triples
+ * ascend isn't asked. A taken count may be any number: beyond its slice it is row 8, as is an
+ * offset above 4294967295, though the last list may end above. Rows 2 (count and positions), 19,
+ * 20, 2 (side), 3 (lengths), 17, 18, 4, 5, 8 change nothing. */
+koshirga_pack_answer koshirga_pack(const double *positions, size_t positions_length,
+                                   double factor, uint32_t margin, uint32_t side,
+                                   const uint32_t *cell_starts, size_t cell_starts_length,
+                                   const uint16_t *cell_ids, size_t cell_ids_length,
+                                   const uint32_t *triangle_starts, size_t triangle_starts_length,
+                                   const uint16_t *triples, size_t triples_length,
+                                   uint32_t *words, size_t words_length, size_t words_taken,
+                                   float *floats, size_t floats_length, size_t floats_taken);
+
 /* ---- mesh and grid as structs */
 
 /* A mesh that is read, and its mark, which is last: an initialiser that ends before it leaves it
@@ -557,6 +613,18 @@ static inline koshirga_located_answer koshirga_locate_in(const koshirga_grid *gr
                                 grid->cell_ids, grid->cell_ids_length, grid->triangle_starts,
                                 grid->triangle_starts_length, grid->triples, grid->triples_length,
                                 direction);
+}
+
+/* koshirga_pack of a grid. */
+static inline koshirga_pack_answer koshirga_pack_grid(const koshirga_grid *grid, uint32_t *words,
+                                                      size_t words_length, size_t words_taken,
+                                                      float *floats, size_t floats_length,
+                                                      size_t floats_taken) {
+    return koshirga_pack(grid->positions, grid->positions_length, grid->factor, grid->margin,
+                         grid->side, grid->cell_starts, grid->cell_starts_length, grid->cell_ids,
+                         grid->cell_ids_length, grid->triangle_starts, grid->triangle_starts_length,
+                         grid->triples, grid->triples_length, words, words_length, words_taken,
+                         floats, floats_length, floats_taken);
 }
 
 #ifdef __cplusplus

@@ -1,4 +1,5 @@
-//! Order, minimum, rounding to a whole number, conversion, fused multiply-add and root of doubles.
+//! Order, minimum, rounding to a whole number and to binary32, conversion, fused multiply-add and root
+//! of doubles.
 
 use crate::ffi;
 use std::cmp::Ordering;
@@ -123,6 +124,22 @@ pub fn to_i64(x: f64) -> Converted {
         whole: answer.whole,
         how: Conversion::of_code(answer.how),
     }
+}
+
+/// `x` rounded to binary32, to nearest, ties to even: convertFormat (IEEE 754-2019, 5.4.2 and
+/// 4.3.1). From 2^128 − 2^103 on the result is an infinity (4.3.1), an infinity stays (6.1), a zero
+/// result has the sign of `x` (6.3), and a NaN gives a NaN (6.2).
+///
+/// ```
+/// use koshirga::to_f32;
+///
+/// let tie = 1.0 + 2f64.powi(-24);
+/// assert_eq!(to_f32(tie), 1.0);
+/// assert_eq!(to_f32(tie.next_up()), 1.0 + f32::EPSILON);
+/// ```
+#[inline]
+pub fn to_f32(x: f64) -> f32 {
+    ffi::koshirga_to_f32(x)
 }
 
 /// a·b + c, exact and then rounded once, to nearest, ties to even: fusedMultiplyAdd (IEEE 754-2019,
@@ -341,6 +358,57 @@ mod tests {
         let cases: Vec<_> = constants("conversion").map(named).collect();
         assert_eq!(cases.len(), 4);
         assert!(cases.iter().all(|(name, case)| name == case), "{cases:?}");
+    }
+
+    #[test]
+    fn rounded_to_binary32() {
+        for (x, rounded) in [
+            (0x3fb9_9999_9999_999a, 0x3dcc_cccd), // 0.1
+            // Halfway between two, to the even one, and a little to either side.
+            (0x3ff0_0000_1000_0000, 0x3f80_0000),
+            (0x3ff0_0000_1000_0001, 0x3f80_0001),
+            (0x3ff0_0000_3000_0000, 0x3f80_0002),
+            (0x3ff0_0000_2fff_ffff, 0x3f80_0001),
+            // 2^-150, half the least subnormal, and 3·2^-150.
+            (0x3690_0000_0000_0000, 0x0000_0000),
+            (0x3690_0000_0000_0001, 0x0000_0001),
+            (0x36a8_0000_0000_0000, 0x0000_0002),
+            (0xb680_0000_0000_0000, 0x8000_0000), // -2^-151
+            (0x380f_ffff_ffff_ffff, 0x0080_0000), // carried to the least normal
+            (0x47ef_ffff_efff_ffff, 0x7f7f_ffff),
+            (0x47ef_ffff_f000_0000, 0x7f80_0000), // 2^128 - 2^103
+            (0xc7ef_ffff_f000_0000, 0xff80_0000),
+            (0x0000_0000_0000_0000, 0x0000_0000),
+            (0x8000_0000_0000_0000, 0x8000_0000),
+            (0x0000_0000_0000_0001, 0x0000_0000),
+            (0x8000_0000_0000_0001, 0x8000_0000),
+            (0x7ff0_0000_0000_0000, 0x7f80_0000),
+            (0xfff0_0000_0000_0000, 0xff80_0000),
+        ] {
+            let ours = to_f32(f64::from_bits(x));
+            assert_eq!(ours.to_bits(), rounded, "{x:#x}");
+        }
+        for nan in [0x7ff8_0000_0000_0000, 0xfff0_0000_0000_0001, u64::MAX] {
+            assert!(to_f32(f64::from_bits(nan)).is_nan(), "{nan:#x}");
+        }
+    }
+
+    /// Patterns of every sign and exponent with fractions about the binary32 digits. The cast of
+    /// the language tells which is expected.
+    #[test]
+    fn rounded_of_every_exponent() {
+        const KEPT: [u64; 5] = [0, 1, 0x2a_aaab, 0x7f_fffe, 0x7f_ffff];
+        const CUT_OFF: [u64; 6] = [0, 1, 0xfff_ffff, 0x1000_0000, 0x1000_0001, 0x1fff_ffff];
+        for high in 0..1 << 12 {
+            for kept in KEPT {
+                for cut_off in CUT_OFF {
+                    let x = f64::from_bits(high << 52 | kept << 29 | cut_off);
+                    let (ours, rounded) = (to_f32(x), x as f32);
+                    let same = ours.to_bits() == rounded.to_bits();
+                    assert!(same || ours.is_nan() && rounded.is_nan(), "{x:e}");
+                }
+            }
+        }
     }
 
     const LEAST: f64 = f64::from_bits(1);

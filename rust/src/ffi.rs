@@ -5,7 +5,9 @@
 //! What is called for one direction or number is `#[inline]`, here and in the files beside: as calls
 //! of their own these would hand arguments and answers through memory once more.
 
-use crate::{Grid, GridMut, Mesh, MeshMut, Scratch, Settings, Vector3, Weights};
+use crate::{
+    Grid, GridMut, LevelRecord, Mesh, MeshMut, Scratch, Settings, Taken, Vector3, Weights,
+};
 
 #[repr(C)]
 pub struct ConversionAnswer {
@@ -71,6 +73,13 @@ pub struct LocatedAnswer {
     pub index: usize,
 }
 
+#[repr(C)]
+pub struct PackAnswer {
+    pub refusal: u32,
+    pub level: LevelRecord,
+    pub index: usize,
+}
+
 unsafe extern "C" {
     pub safe fn koshirga_total_cmp(x: u64, y: u64) -> i32;
     pub safe fn koshirga_rank(x: f64) -> u64;
@@ -78,6 +87,7 @@ unsafe extern "C" {
     pub safe fn koshirga_floor(x: f64) -> f64;
     pub safe fn koshirga_ceil(x: f64) -> f64;
     pub safe fn koshirga_to_i64(x: f64) -> ConversionAnswer;
+    pub safe fn koshirga_to_f32(x: f64) -> f32;
     pub safe fn koshirga_mul_add(a: f64, b: f64, c: f64) -> f64;
     pub safe fn koshirga_sqrt(x: f64) -> f64;
     pub safe fn koshirga_sqrt_by_digits(x: f64) -> f64;
@@ -229,6 +239,28 @@ unsafe extern "C" {
         triples_length: usize,
         direction: Vector3,
     ) -> LocatedAnswer;
+
+    fn koshirga_pack(
+        positions: *const f64,
+        positions_length: usize,
+        factor: f64,
+        margin: u32,
+        side: u32,
+        cell_starts: *const u32,
+        cell_starts_length: usize,
+        cell_ids: *const u16,
+        cell_ids_length: usize,
+        triangle_starts: *const u32,
+        triangle_starts_length: usize,
+        triples: *const u16,
+        triples_length: usize,
+        words: *mut u32,
+        words_length: usize,
+        words_taken: usize,
+        floats: *mut f32,
+        floats_length: usize,
+        floats_taken: usize,
+    ) -> PackAnswer;
 }
 
 pub fn walk(mesh: Mesh, order: &mut [u32], queue: &mut [u32]) -> WalkAnswer {
@@ -438,6 +470,33 @@ pub fn grid_locate(grid: Grid, direction: Vector3) -> LocatedAnswer {
     }
 }
 
+pub fn pack(grid: Grid, words: &mut [u32], floats: &mut [f32], taken: Taken) -> PackAnswer {
+    // Safe: pointers and lengths are of slices, and those written are lent alone.
+    unsafe {
+        koshirga_pack(
+            grid.positions.as_ptr(),
+            grid.positions.len(),
+            grid.settings.factor,
+            grid.settings.margin,
+            grid.side,
+            grid.cell_starts.as_ptr(),
+            grid.cell_starts.len(),
+            grid.cell_ids.as_ptr(),
+            grid.cell_ids.len(),
+            grid.triangle_starts.as_ptr(),
+            grid.triangle_starts.len(),
+            grid.triples.as_ptr(),
+            grid.triples.len(),
+            words.as_mut_ptr(),
+            words.len(),
+            taken.words,
+            floats.as_mut_ptr(),
+            floats.len(),
+            taken.floats,
+        )
+    }
+}
+
 #[cfg(test)]
 pub mod tests {
     use super::*;
@@ -488,6 +547,7 @@ pub mod tests {
         let ours = match kind_alone {
             "bool" => "bool",
             "double" => "f64",
+            "float" => "f32",
             "koshirga_vector3" => "Vector3",
             "koshirga_weights" => "Weights",
             "size_t" => "usize",
@@ -538,14 +598,15 @@ pub mod tests {
         for line in fields.lines() {
             let (declared, _) = line.split_once(';').unwrap();
             let (kind, names) = declared.trim().split_once(' ').unwrap();
-            let width = match kind {
-                "uint32_t" => 4,
-                "double" | "int64_t" | "size_t" => 8,
+            let (width, own_align) = match kind {
+                "uint32_t" => (4, 4),
+                "double" | "int64_t" | "size_t" => (8, 8),
+                "koshirga_level_record" => (28, 4),
                 other => panic!("{other}"),
             };
-            align = width.max(align);
+            align = own_align.max(align);
             for name in names.split(", ") {
-                let start = end.next_multiple_of(width);
+                let start = end.next_multiple_of(own_align);
                 if name == field {
                     place = Some(start);
                 }
@@ -572,6 +633,32 @@ pub mod tests {
         same!("face", FaceAnswer, refusal, face);
         same!("vertex", VertexAnswer, refusal, id);
         same!("analytic", AnalyticAnswer, refusal);
+        same!("pack", PackAnswer, refusal, level, index);
+    }
+
+    /// The fields of the header's level record, in their order, are those of ours.
+    #[test]
+    fn level_record_is_laid_out_as_in_the_header() {
+        let header = include_str!("../../include/koshirga.h");
+        let (_, rest) = header
+            .split_once("\ntypedef struct koshirga_level_record {\n")
+            .unwrap();
+        let (fields, _) = rest.split_once("\n} koshirga_level_record;\n").unwrap();
+        let declared = fields.lines().flat_map(|line| {
+            let (declared, _) = line.split_once(';').unwrap();
+            let names = declared.trim().strip_prefix("uint32_t ").unwrap();
+            names.split(", ")
+        });
+        macro_rules! places {
+            ($($field:ident),+) => {[$((stringify!($field), offset_of!(LevelRecord, $field))),+]};
+        }
+        #[rustfmt::skip]
+        let ours = places!(
+            vertices, side, cell_starts, cell_ids, triangle_starts, triples, positions
+        );
+        let declared: Vec<_> = declared.zip((0..).step_by(4)).collect();
+        assert_eq!(declared, ours);
+        assert_eq!(size_of::<LevelRecord>(), 28);
     }
 
     /// An initialiser of the slices alone leaves the mark of the header's mesh false.

@@ -1,6 +1,6 @@
 //! The cube grid of a mesh, and its queries.
 
-use crate::{ceil, ffi, sqrt, Mesh, Refusal, Vector3, Weights};
+use crate::{ceil, ffi, sqrt, GpuBuffers, LevelRecord, Mesh, Refusal, Vector3, Weights};
 
 /// The pair that a grid is built with. The default is the usual one, 1.2 and 1.
 ///
@@ -298,6 +298,11 @@ impl<'a> FaceGrid<'a> {
     #[inline]
     pub fn locate(&self, direction: Vector3) -> Result<Located, Refusal> {
         self.as_grid().locate(direction)
+    }
+
+    /// See [`GpuBuffers::append`].
+    pub fn pack(&self, buffers: &mut GpuBuffers) -> Result<LevelRecord, Refusal> {
+        buffers.append(&self.as_grid())
     }
 }
 

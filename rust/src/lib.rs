@@ -1,7 +1,8 @@
 //! Safe calls of Koshirga, whose code is proved in Rattle and linked as a static archive.
 //!
 //! The exports are those of `include/koshirga.h`; each has its call here, over lent slices.
-//! [`LatticeGeometry`], [`MeshData`] and [`FaceGrid`] make the same calls with lists of their own.
+//! [`LatticeGeometry`], [`MeshData`], [`FaceGrid`] and [`GpuBuffers`] make the same calls with lists
+//! of their own.
 //! Why a call may be refused is listed at [`Refusal`]; what each call does, step by step, is in
 //! `docs/DATASHEET.md`.
 //!
@@ -24,6 +25,7 @@
 
 mod analytic;
 mod binary64;
+mod buffers;
 #[allow(unsafe_code)]
 mod ffi;
 mod grid;
@@ -35,9 +37,10 @@ mod weights;
 
 pub use analytic::{choose_face, AnalyticLattice, Outside, Signs};
 pub use binary64::{
-    ceil, floor, minimum_number, mul_add, rank, sqrt, sqrt_by_digits, to_i64, total_cmp,
+    ceil, floor, minimum_number, mul_add, rank, sqrt, sqrt_by_digits, to_f32, to_i64, total_cmp,
     Conversion, Converted,
 };
+pub use buffers::{GpuBuffers, LevelRecord, Taken};
 pub use grid::{build_grid, Built, FaceGrid, Grid, GridMut, Located, Nearest, Settings};
 pub use lattice::{lattice_geometry, LatticeGeometry};
 pub use mesh::{

@@ -15,13 +15,13 @@ use std::fmt;
 /// | 5 | mesh | a position has a component that is not finite, or a length below 2^-20 or above 2^20 |
 /// | 6 | renumbering | the permutation has a wrong length or is no permutation of the ids |
 /// | 7 | renumbering | the entries a vertex are neither 1 nor the vertex count |
-/// | 8 | lent space | a slice is too short |
+/// | 8 | lent space | a slice is too short, or an offset is above 4,294,967,295 |
 /// | 9 | direction | it has a component that is not finite, or a length below 2^-20 or above 2^20 |
 /// | 10 | classifier | the outside flags weigh more than 3 |
 /// | 11 | cell | no vertex is placed there |
 /// | 12 | adjacent triangles | none has a least weight above minus infinity |
 /// | 13 | walk | a vertex is not reached |
-/// | 17 | mesh | the first start is not 0, or the last is not the number of entries |
+/// | 17 | mesh | the first start is not 0, or the last is not the number of entries, ids or triples |
 /// | 18 | mesh | a start is below the one before it |
 /// | 19 | factor | it is not finite, or below 0.5 or above 4.0 |
 /// | 20 | margin | it is above 3 |
@@ -31,10 +31,11 @@ use std::fmt;
 /// a length only where no start falls.
 ///
 /// Rows 3, 4 and 18 also refuse a grid's starts and ids in a query, which reads one part of a list;
-/// 17 does not. Rows 5 and 9 test the squared length as it is computed: from 2^-40 to 2^40 is
-/// accepted, ends included. Rows 19 and 20 refuse a grid's [`Settings`](crate::Settings): in the
-/// builder behind the mesh's rows, which 5 ends, and in a query between row 2 for count and
-/// positions and row 2 for the side.
+/// 17 does not. A packing reads them whole, with no limit of 32: 3 (lengths), 17, 18 and 4, in each
+/// the cells before the triangles. Rows 5 and 9 test the squared length as it is computed: from
+/// 2^-40 to 2^40 is accepted, ends included. Rows 19 and 20 refuse a grid's
+/// [`Settings`](crate::Settings): in the builder behind the mesh's rows, which 5 ends, and in a
+/// query and a packing between row 2 for count and positions and row 2 for the side.
 ///
 /// ```
 /// use koshirga::Vector3;
@@ -72,8 +73,9 @@ impl Refusal {
     }
 
     /// Of row 18, and of no other, the place of the start that is below the one before it, counted
-    /// from 0 in its list. In a mesh it is the first such start. In a query it is the one that ends
-    /// the part read: 1 more than the direction's cell, in the cell starts, or than the nearest
+    /// from 0 in its list. In a mesh it is the first such start; in a packing the first of the cell
+    /// starts, or where none of these falls, of the triangle starts. In a query it is the one that
+    /// ends the part read: 1 more than the direction's cell, in the cell starts, or than the nearest
     /// vertex, in the triangle starts.
     ///
     /// ```
@@ -130,7 +132,10 @@ impl Refusal {
                 "renumbering",
                 "the entries a vertex are neither 1 nor the vertex count",
             ),
-            8 => ("lent space", "a slice is too short"),
+            8 => (
+                "lent space",
+                "a slice is too short, or an offset is above 4,294,967,295",
+            ),
             9 => (
                 "direction",
                 "it has a component that is not finite, or a length below 2^-20 or above 2^20",
@@ -144,7 +149,8 @@ impl Refusal {
             13 => ("walk", "a vertex is not reached"),
             17 => (
                 "mesh",
-                "the first start is not 0, or the last is not the number of entries",
+                "the first start is not 0, or the last is not the number of entries, ids or \
+                 triples",
             ),
             18 => ("mesh", "a start is below the one before it"),
             19 => ("factor", "it is not finite, or below 0.5 or above 4.0"),
@@ -203,7 +209,8 @@ mod tests {
         assert_eq!(text(13, 0), "refusal 13 (walk): a vertex is not reached");
         assert_eq!(
             text(17, 0),
-            "refusal 17 (mesh): the first start is not 0, or the last is not the number of entries"
+            "refusal 17 (mesh): the first start is not 0, or the last is not the number of entries, \
+             ids or triples"
         );
         assert_eq!(
             text(18, 2),

@@ -101,6 +101,7 @@ fn the_header_has_the_sheets_order() {
         ("koshirga_build_grid", "grid builder"),
         ("koshirga_grid_nearest", "nearest grid query"),
         ("koshirga_grid_locate", "grid location"),
+        ("koshirga_pack", "packing"),
         ("koshirga_analytic_locate", "analytic queries"),
         ("koshirga_analytic_nearest", "analytic queries"),
     ] {

@@ -67,7 +67,8 @@ fn starts_that_do_not_span() {
     assert_eq!(row(refusal), (17, None));
     assert_eq!(
         refusal.to_string(),
-        "refusal 17 (mesh): the first start is not 0, or the last is not the number of entries"
+        "refusal 17 (mesh): the first start is not 0, or the last is not the number of entries, ids \
+         or triples"
     );
     for starts in [[0, 2, 5], [0, 2, 3], [3, 2, 4], [0, 5, 3], [0, 40, 41]] {
         assert_eq!(row_of(2, &starts, &[0; 4]), (17, None), "{starts:?}");

@@ -12,6 +12,7 @@ use Rattle.master_face.specs.declared.Three.{Three}
 use Rattle.analytic.specs.declared.Signs.{Signs}
 use Rattle.analytic.specs.declared.Located as analytic
 use Rattle.grid.specs.declared.Built.{Built}
+use Rattle.packing.specs.declared.LevelRecord.{LevelRecord}
 use Rattle.grid_query.specs.declared.Nearest.{Nearest}
 use Rattle.grid_query.specs.declared.LocatedTriangle.{LocatedTriangle}
 use Rattle.c_api.specs.declared.VerdictAnswer.{VerdictAnswer}
@@ -21,6 +22,7 @@ use Rattle.c_api.specs.declared.FaceAnswer.{FaceAnswer}
 use Rattle.c_api.specs.declared.AnalyticAnswer.{AnalyticAnswer}
 use Rattle.c_api.specs.declared.VertexAnswer.{VertexAnswer}
 use Rattle.c_api.specs.declared.WalkAnswer.{WalkAnswer}
+use Rattle.c_api.specs.declared.PackAnswer.{PackAnswer}
 use Rattle.c_api.specs.declared.NearestAnswer.{NearestAnswer}
 use Rattle.c_api.specs.declared.LocatedAnswer.{LocatedAnswer}
 
@@ -85,6 +87,14 @@ walk_answer (Ok read) = record { refusal = 0; entries_read = read; index = 0 }
 abbrev pub build_answer : Result Built Refusal → BuildAnswer
 build_answer (Err reason) = record { refusal = number_of reason; side = 0; index = index_of reason; held = 0 }
 build_answer (Ok built) = record { refusal = 0; side = built.side; index = 0; held = built.held }
+
+-- The record of a refused packing: seven zeros.
+abbrev pub no_record : LevelRecord
+no_record = record { vertices = 0; side = 0; cell_starts = 0; cell_ids = 0; triangle_starts = 0; triples = 0; positions = 0 }
+
+abbrev pub pack_answer : Result LevelRecord Refusal → PackAnswer
+pack_answer (Err reason) = record { refusal = number_of reason; level = no_record; index = index_of reason }
+pack_answer (Ok packed) = record { refusal = 0; level = packed; index = 0 }
 
 abbrev pub nearest_answer : Result Nearest Refusal → NearestAnswer
 nearest_answer (Err reason) = record { refusal = number_of reason; id = 0; candidates = 0; distance = positive_zero; index = index_of reason }

@@ -6,9 +6,11 @@ use Rattle.walk.specs.Walk.{WalkOutcome}
 use Rattle.renumber.specs.Renumber.{RenumberOutcome}
 use Rattle.c_api.specs.declared.VerdictAnswer.{VerdictAnswer}
 use Rattle.c_api.specs.declared.WalkAnswer.{WalkAnswer}
-use Rattle.c_api.specs.Code.{build_answer, refusal_code, verdict_answer, walk_answer}
+use Rattle.c_api.specs.declared.PackAnswer.{PackAnswer}
+use Rattle.c_api.specs.Code.{build_answer, pack_answer, refusal_code, verdict_answer, walk_answer}
 use Rattle.lattice.specs.Lattice.{LatticeSlices, LatticeOutcome}
 use Rattle.grid.specs.Grid.{GridSlices, BuildOutcome}
+use Rattle.packing.specs.Packing.{PackOutcome}
 use Rattle.c_api.specs.declared.BuildAnswer.{BuildAnswer}
 
 -- A walk's answer, order and queue.
@@ -69,3 +71,15 @@ build_left answer slices = record { answer = answer; slices = slices }
 
 abbrev pub build_left_of : BuildOutcome → BuildLeft
 build_left_of outcome = build_left (build_answer outcome.answered) outcome.slices
+
+-- What a call of `koshirga_pack` leaves: its answer, and the slices of words and of floats.
+pub record PackLeft : Type 0 where
+  pub answer : PackAnswer
+  pub words : List ℕ
+  pub floats : List Float
+
+abbrev pub pack_left : PackAnswer → List ℕ → List Float → PackLeft
+pack_left answer words floats = record { answer = answer; words = words; floats = floats }
+
+abbrev pub pack_left_of : PackOutcome → PackLeft
+pack_left_of outcome = pack_left (pack_answer outcome.answered) outcome.words outcome.floats

@@ -1,10 +1,11 @@
-// Doubles: order, minimum, whole numbers, fused multiplication and square root.
+// Doubles: order, minimum, conversions to whole numbers and to binary32, fused multiplication and square root.
 ghost use Rattle.std.specs.Prelude.{◌≡◌};
-ghost use Rattle.std.specs.Float.{binary64};
+ghost use Rattle.std.specs.Float.{binary32, binary64};
 ghost use Rattle.binary64.specs.TotalOrder.{total_ordering, rank_of};
 ghost use Rattle.binary64.specs.Minimum.{minimum_number};
 ghost use Rattle.binary64.specs.Integral.{floor_of, ceil_of};
 ghost use Rattle.binary64.specs.Convert.{converted_of};
+ghost use Rattle.binary32.specs.Convert.{convert_format};
 ghost use Rattle.fused.specs.Fused.{fused_multiply_add};
 ghost use Rattle.root.specs.Root.{square_root};
 ghost use Rattle.c_api.specs.Code.{ordering_code, conversion_answer};
@@ -46,6 +47,12 @@ pub fn koshirga_to_i64(x: f64) -> ConversionAnswer
     ensures { result ≡ conversion_answer (converted_of x) }
 {
     binary64::to_i64(x).into()
+}
+
+pub fn koshirga_to_f32(x: f64) -> f32
+    ensures { result ≡ convert_format binary32 x }
+{
+    binary32::to_f32(x)
 }
 
 pub fn koshirga_mul_add(a: f64, b: f64, c: f64) -> f64

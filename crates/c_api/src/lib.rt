@@ -3,9 +3,10 @@
 
 ghost use Rattle.std.specs.Prelude.{◌≡◌};
 ghost use Rattle.analytic.specs.FaceChoice.{face_index};
-ghost use Rattle.c_api.specs.Code.{verdict_answer, face_answer, analytic_answer, vertex_answer, walk_answer, build_answer, conversion_answer, nearest_answer, located_answer, refusal_code};
+ghost use Rattle.c_api.specs.Code.{verdict_answer, face_answer, analytic_answer, vertex_answer, walk_answer, build_answer, pack_answer, conversion_answer, nearest_answer, located_answer, refusal_code};
 
 pub mod arithmetic;
+pub mod buffers;
 pub mod grids;
 pub mod lattices;
 pub mod meshes;
@@ -15,6 +16,7 @@ use binary64::Converted;
 use grid::Built;
 use grid_query::{LocatedTriangle, Nearest};
 use icosahedron::Face;
+use packing::LevelRecord;
 use refusal::Refusal;
 
 // What C receives: a Result as one struct, which C has no other form for. Every answer has the refusal's number first, 0 where the call
@@ -172,6 +174,33 @@ impl From<Result<Built, Refusal>> for BuildAnswer {
                 refusal: reason.number(),
                 index: reason.index(),
                 ..BuildAnswer::default()
+            },
+        }
+    }
+}
+
+// The record stands whole in the answer, so that a viewer can hand its seven numbers on as they are.
+#[repr(C)]
+#[derive(Clone, Copy, Debug, Default)]
+pub struct PackAnswer {
+    pub refusal: u32,
+    pub level: LevelRecord,
+    pub index: usize,
+}
+
+impl From<Result<LevelRecord, Refusal>> for PackAnswer {
+    ghost from_gives = { λ outcome answer. answer ≡ pack_answer outcome };
+
+    fn from(outcome: Result<LevelRecord, Refusal>) -> PackAnswer {
+        match outcome {
+            Ok(level) => PackAnswer {
+                level,
+                ..PackAnswer::default()
+            },
+            Err(reason) => PackAnswer {
+                refusal: reason.number(),
+                index: reason.index(),
+                ..PackAnswer::default()
             },
         }
     }

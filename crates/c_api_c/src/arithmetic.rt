@@ -1,10 +1,11 @@
-// Doubles: order, minimum, whole numbers, fused multiplication and square root.
+// Doubles: order, minimum, conversions to whole numbers and to binary32, fused multiplication and square root.
 ghost use Rattle.std.specs.Prelude.{◌≡◌};
-ghost use Rattle.std.specs.Float.{binary64};
+ghost use Rattle.std.specs.Float.{binary32, binary64};
 ghost use Rattle.binary64.specs.TotalOrder.{total_ordering, rank_of};
 ghost use Rattle.binary64.specs.Minimum.{minimum_number};
 ghost use Rattle.binary64.specs.Integral.{floor_of, ceil_of};
 ghost use Rattle.binary64.specs.Convert.{converted_of};
+ghost use Rattle.binary32.specs.Convert.{convert_format};
 ghost use Rattle.fused.specs.Fused.{fused_multiply_add};
 ghost use Rattle.root.specs.Root.{square_root};
 ghost use Rattle.c_api.specs.Code.{ordering_code, conversion_answer};
@@ -52,6 +53,13 @@ pub extern "C" fn koshirga_to_i64(x: f64) -> ConversionAnswer
     ensures { result ≡ conversion_answer (converted_of x) }
 {
     c_api::arithmetic::koshirga_to_i64(x)
+}
+
+#[unsafe(no_mangle)]
+pub extern "C" fn koshirga_to_f32(x: f64) -> f32
+    ensures { result ≡ convert_format binary32 x }
+{
+    c_api::arithmetic::koshirga_to_f32(x)
 }
 
 #[unsafe(no_mangle)]

@@ -3,6 +3,7 @@
 #![tactic(auto)]
 
 mod arithmetic;
+mod buffers;
 mod grids;
 mod lattices;
 mod meshes;

@@ -1,4 +1,4 @@
-// The rows of a stored grid, which a query tests before it reads a part of it.
+// The rows of a stored grid, which a call tests before it reads a part of it.
 ghost use Rattle.std.specs.Prelude.{◌≡◌, true, Ok};
 ghost use Rattle.mesh.specs.Rows.{positions_fit};
 ghost use Rattle.grid.specs.Stored.{side_rows, stored_rows};
@@ -6,11 +6,11 @@ ghost use Rattle.grid.specs.Stored.{side_rows, stored_rows};
 use crate::extent::Extent;
 use crate::settings::Settings;
 use crate::side::VertexCount;
-use mesh::{positions_fit, vertex_count};
+use mesh::{falling_start, positions_fit, starts_span, vertex_count};
 use refusal::Refusal;
 use std::marker::Model;
 
-// A stored grid as a query is lent it, beside the positions. A contract sees it as a `Grid`.
+// A stored grid as a call is lent it, beside the positions. A contract sees it as a `Grid`.
 #[derive(Drop)]
 pub struct StoredGrid<'a> {
     pub settings: Settings,
@@ -31,10 +31,12 @@ impl<'a> Model for StoredGrid<'a> {
 }
 
 impl<'a> StoredGrid<'a> {
-    ghost use Rattle.std.specs.Prelude.{◌≡◌, ◌+◌, ◌&&◌, ◌==◌, Ok, length};
+    ghost use Rattle.std.specs.Prelude.{◌≡◌, ◌+◌, ◌&&◌, ◌==◌, Ok, List, Float, length};
     ghost use Rattle.grid.specs.Cells.{cell_count};
     ghost use Rattle.grid.specs.Passes.{GridExtent};
     ghost use Rattle.grid.specs.Settings.{settings_rows};
+    ghost use Rattle.mesh.specs.Mesh.{vertex_count};
+    ghost use Rattle.grid.specs.Stored.{cell_starts_span, triangle_starts_span, whole_starts_rows};
 
     // Its extent, where its pair and its side have passed.
     #[inline(always)]
@@ -85,6 +87,45 @@ impl<'a> StoredGrid<'a> {
         }
         self.settings.check()?;
         self.check_side(positions)
+    }
+
+    // Row 17: the cell starts begin at 0 and end at the count of cell ids.
+    fn cell_starts_span(&self) -> bool
+        requires { length self.now.cell_starts ≡ cell_count self.now.side + 1 }
+        ensures { result ≡ cell_starts_span self.now }
+    {
+        starts_span(self.cell_starts.len() - 1, self.cell_starts, self.cell_ids)
+    }
+
+    // Row 17: the triangle starts begin at 0 and end at the count of triples, of three ids each.
+    #[tactic(auto, unfolding(crate::specs::Stored::triangle_starts_span))]
+    fn triangle_starts_span(&self, vertices: usize) -> bool
+        requires { length self.now.triangle_starts ≡ vertices + 1 }
+        ensures { (positions : List Float) → vertex_count positions ≡ vertices → result ≡ triangle_starts_span self.now positions }
+    {
+        (self.triangle_starts[0] == 0)
+            & (self.triangle_starts[vertices] as usize * 3 == self.triples.len())
+    }
+
+    // Rows 17 and 18 of both start lists, read whole, behind the rows of `check`.
+    #[tactic(auto, unfolding(crate::specs::Stored::whole_starts_rows))]
+    pub fn check_starts(&self, positions: &[f64]) -> Result<(), Refusal>
+        requires { stored_rows self.now positions.now (Ok tt) ≡ Ok tt }
+        ensures { result ≡ whole_starts_rows self.now positions.now }
+    {
+        if !self.cell_starts_span() {
+            return Err(Refusal::StartsSpan);
+        }
+        if !self.triangle_starts_span(vertex_count(positions)) {
+            return Err(Refusal::StartsSpan);
+        }
+        if let Some(index) = falling_start(self.cell_starts) {
+            return Err(Refusal::StartsFall { index });
+        }
+        if let Some(index) = falling_start(self.triangle_starts) {
+            return Err(Refusal::StartsFall { index });
+        }
+        Ok(())
     }
 
     // Whether a stored grid of the usual factor passes these rows; where it says no, `check` finds the row. It is short and takes no root, so that a query of a usual grid isn't held up by a call.

@@ -21,7 +21,7 @@ use Rattle.mesh.proofs.Falls.{fall_first, ascend_no_fall, ascend_fall}
 -- ---- each reason is one of the rows': 18 only where a start falls
 module _ (P : Refusal → Type 0) where
   -- row 18, with the index that it names
-  reasons_fall : (fall : Option ℕ) (next : Verdict) → ((index : ℕ) → fall ≡ Some index → P (StartsFall index)) → (fall ≡ None → EachReason P next) → EachReason P (fall_row fall next)
+  pub reasons_fall : (fall : Option ℕ) (next : Verdict) → ((index : ℕ) → fall ≡ Some index → P (StartsFall index)) → (fall ≡ None → EachReason P next) → EachReason P (fall_row fall next)
   reasons_fall None next mine rest = rest refl
   reasons_fall (Some index) next mine rest = reasons_refused P (StartsFall index) (mine index refl)
 

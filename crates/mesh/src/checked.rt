@@ -77,19 +77,18 @@ impl<'a> Mesh<'a> {
         crate::list_of(self.starts, self.entries, vertex)
     }
 
-    // Row 5 behind rows 2 to 4. By vertex, here and below: a position is three numbers and a list lies between two starts, so that no slice
-    // has one element a vertex.
+    // Row 5 behind rows 2 to 4.
     pub fn check_positions(&self) -> Result<(), Refusal>
         ensures { result ≡ mesh_rows self.now }
     {
-        if (0..self.count()).all(|vertex| self.position(vertex).is_admissible()) {
+        if crate::positions_admissible(self.positions()) {
             Ok(())
         } else {
             Err(Refusal::Position)
         }
     }
 
-    // Whether all neighbour lists ascend.
+    // Whether all neighbour lists ascend. By vertex: a list lies between two starts, so that no slice has one element a vertex.
     pub fn lists_ascend(&self) -> bool
         ensures { result ≡ lists_ascend self.now }
     {

@@ -10,7 +10,7 @@ ghost use Rattle.std.specs.Prelude.{◌≡◌, true, suc, ◌*◌, ◌+◌, ◌-
 ghost use Rattle.sequences.specs.Permutation.{is_permutation};
 ghost use Rattle.sequences.specs.Starts.{part};
 ghost use Rattle.mesh.specs.Mesh.{mesh_of, vertex_count, position_of, HasList};
-ghost use Rattle.mesh.specs.Rows.{greatest_count, positions_fit, starts_counted, starts_span, falling_start, lists_limited, ids_below, list_rows, adjacency_rows};
+ghost use Rattle.mesh.specs.Rows.{greatest_count, positions_fit, starts_counted, starts_span, falling_start, lists_limited, ids_below, positions_admissible, list_rows, adjacency_rows};
 ghost use Rattle.mesh.specs.Mark.{mark_outcome, mark_ascending};
 
 pub use checked::Mesh;
@@ -72,7 +72,7 @@ fn starts_counted(count: usize, starts: &[u32]) -> bool
 
 // Row 17: the starts begin at 0 and end at the entry count.
 #[tactic(auto, unfolding(crate::specs::Rows::starts_span))]
-fn starts_span(count: usize, starts: &[u32], entries: &[u16]) -> bool
+pub fn starts_span(count: usize, starts: &[u32], entries: &[u16]) -> bool
     requires { length starts.now ≡ suc count }
     ensures { result ≡ starts_span count starts.now entries.now }
 {
@@ -107,6 +107,13 @@ pub fn ids_below(count: usize, ids: &[u16]) -> bool
         .copied()
         .max()
         .is_none_or(|greatest| (greatest as usize) < count)
+}
+
+// Row 5. By vertex: a position is three numbers.
+pub fn positions_admissible(positions: &[f64]) -> bool
+    ensures { result ≡ positions_admissible positions.now }
+{
+    (0..vertex_count(positions)).all(|vertex| position(positions, vertex).is_admissible())
 }
 
 // Rows 3 and 4, 17 and 18 among them, of the neighbour lists of so many vertices.

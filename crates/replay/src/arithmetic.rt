@@ -51,3 +51,13 @@ pub fn replay_minimum_number(reader: &mut Reader) -> Result<(), Fault> {
     let y = reader.take()?;
     reader.expect(c_api::arithmetic::koshirga_minimum_number(x, y))
 }
+
+// x; the binary32 that it is converted to: its bit pattern, or that it is a NaN.
+pub fn replay_to_f32(reader: &mut Reader) -> Result<(), Fault> {
+    let x = reader.take()?;
+    let converted = c_api::arithmetic::koshirga_to_f32(x);
+    if converted.is_nan() {
+        return reader.expect(f64::NAN);
+    }
+    reader.expect(converted.to_bits())
+}

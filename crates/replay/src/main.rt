@@ -3,6 +3,7 @@
 #![tactic(auto)]
 
 mod arithmetic;
+mod buffers;
 mod lattices;
 mod locators;
 mod meshes;
@@ -34,6 +35,9 @@ enum Kind {
     Renumbering,
     GridQuery,
     MinimumNumber,
+    ToF32,
+    Packing,
+    PackedLattices,
 }
 
 // A file of records of one kind.
@@ -44,7 +48,7 @@ struct File {
 }
 
 // A kind's number is its place here. Right records are also read by this table, so that a wrong kind shows as differences.
-static FILES: [File; 13] = [
+static FILES: [File; 16] = [
     File {
         name: "mul_add",
         kind: Kind::MulAdd,
@@ -97,6 +101,18 @@ static FILES: [File; 13] = [
         name: "minimum_number",
         kind: Kind::MinimumNumber,
     },
+    File {
+        name: "to_f32",
+        kind: Kind::ToF32,
+    },
+    File {
+        name: "packings",
+        kind: Kind::Packing,
+    },
+    File {
+        name: "packed_lattices",
+        kind: Kind::PackedLattices,
+    },
 ];
 
 static LOCATORS: [&str; 5] = [
@@ -123,6 +139,9 @@ fn replay_record(kind: Kind, reader: &mut Reader) -> Result<(), Fault> {
         Kind::Renumbering => renumberings::renumbering(reader),
         Kind::GridQuery => queries::grid_query(reader),
         Kind::MinimumNumber => arithmetic::replay_minimum_number(reader),
+        Kind::ToF32 => arithmetic::replay_to_f32(reader),
+        Kind::Packing => buffers::packing(reader),
+        Kind::PackedLattices => buffers::packed_lattices(reader),
     }
 }
 

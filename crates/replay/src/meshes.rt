@@ -5,12 +5,22 @@ use crate::places::{F64_BEFORE, U16_BEFORE, U32_BEFORE};
 use crate::slices::{GridSlices, MeshSlices, cut, expect_built};
 use records::{Fault, ListForm, Reader, Words};
 
-// The lengths of order and queue; the refusal, the entries read, the index, and both slices after the call.
+// The lengths of order and queue; then the walk.
 pub fn walk<F: ListForm>(reader: &mut Reader, mesh: &MeshSlices) -> Result<(), Fault> {
     let mut order = [U32_BEFORE; 64002];
     let mut queue = [U32_BEFORE; 64002];
     let order = cut(reader, &mut order)?;
     let queue = cut(reader, &mut queue)?;
+    walk_into::<F>(reader, mesh, order, queue)
+}
+
+// The refusal, the entries read, the index, and both slices after the call.
+pub fn walk_into<F: ListForm>(
+    reader: &mut Reader,
+    mesh: &MeshSlices,
+    order: &mut [u32],
+    queue: &mut [u32],
+) -> Result<(), Fault> {
     let answer = c_api::meshes::koshirga_walk(
         mesh.positions,
         mesh.starts,

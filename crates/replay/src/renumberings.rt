@@ -58,17 +58,17 @@ fn call(
 }
 
 // The entries a vertex, and the lengths of the scratch slices; then the call.
-fn with_scratch(
+pub fn with_scratch(
     reader: &mut Reader,
     mesh: &mut MeshSlices,
     values: &mut [f64],
     permutation: &[u32],
 ) -> Result<(), Fault> {
-    let mut sources = [U32_BEFORE; 2048];
-    let mut old_starts = [U32_BEFORE; 2048];
-    let mut old_entries = [U16_BEFORE; 2048];
-    let mut done = [U8_BEFORE; 2048];
-    let mut held = [F64_BEFORE; 2048];
+    let mut sources = [U32_BEFORE; 24000];
+    let mut old_starts = [U32_BEFORE; 24000];
+    let mut old_entries = [U16_BEFORE; 24000];
+    let mut done = [U8_BEFORE; 24000];
+    let mut held = [F64_BEFORE; 24000];
     let each = reader.take_length(0xffff_ffff)?;
     let sources = cut(reader, &mut sources)?;
     let old_starts = cut(reader, &mut old_starts)?;

@@ -167,7 +167,7 @@ impl<'a> GridSlices<'a> {
         )
     }
 
-    // The grid of these positions, as the queries are lent it.
+    // The grid of these positions, as the queries and the packing are lent it.
     pub fn grid<'b>(&'b self, positions: &'b [f64], side: u32) -> Grid<'b> {
         Grid {
             positions,

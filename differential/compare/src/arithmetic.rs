@@ -1,7 +1,7 @@
 //! Fused multiply-add and square root, beside Rust's own.
 
 use crate::check::{same, Check, Judge, Tally};
-use crate::operands::{Class, COMPARANDS, RADICANDS, TRIPLES};
+use crate::operands::{Class, COMPARANDS, NARROWED, RADICANDS, TRIPLES};
 use std::hint::black_box;
 use std::io::{self, Write};
 
@@ -62,7 +62,8 @@ const JUDGED_PART_OF_RADICANDS: usize = 2;
 const JUDGED_LEAST: usize = 100_000;
 
 /// Writes the first cases of every class for `mpfr/judge.c`: a line with the number of operands,
-/// the number of cases and the name, then the operands in this machine's order of bytes.
+/// the number of cases and the name, which begins with the function's, then the operands in this
+/// machine's order of bytes.
 pub fn write_cases(out: &mut impl Write) -> io::Result<()> {
     TRIPLES
         .iter()
@@ -71,6 +72,9 @@ pub fn write_cases(out: &mut impl Write) -> io::Result<()> {
         .iter()
         .try_for_each(|class| write_class(out, class, JUDGED_PART_OF_RADICANDS))?;
     COMPARANDS
+        .iter()
+        .try_for_each(|class| write_class(out, class, JUDGED_PART))?;
+    NARROWED
         .iter()
         .try_for_each(|class| write_class(out, class, JUDGED_PART))
 }

@@ -6,8 +6,9 @@ use crate::meshes::{Flat, Lattice, Lists};
 use crate::pairs::{self, pair, USUAL};
 use crate::patterns::Random;
 use crate::queries::Slices;
+use crate::stored::needed;
 use icotable_oracle as rust;
-use koshirga::{GridMut, MeshMut, Scratch, Settings, Vector3, Weights};
+use koshirga::{GpuBuffers, GridMut, MeshMut, Scratch, Settings, Taken, Vector3, Weights};
 use std::hint::black_box;
 use std::time::Instant;
 
@@ -40,6 +41,12 @@ pub fn run() {
     print_line("floor", mixed, |&x| koshirga::floor(x), |&x| x.floor());
     print_line("ceil", mixed, |&x| koshirga::ceil(x), |&x| x.ceil());
     print_line("to_i64", mixed, |&x| koshirga::to_i64(x), |&x| x as i64);
+    print_line(
+        "to_f32, Rust as f32",
+        mixed,
+        |&x| koshirga::to_f32(x),
+        |&x| x as f32,
+    );
     print_line("rank", mixed, |&x| koshirga::rank(x), |&x| place(x));
     // Not the same operation: Rust's min may give either of two zeros.
     print_line(
@@ -68,6 +75,7 @@ pub fn run() {
     for frequency in [20, 80] {
         builders(frequency);
         grid_at_the_ends(frequency);
+        packing(frequency);
     }
     meshes(80);
 }
@@ -189,6 +197,37 @@ fn grid_at_the_ends(frequency: usize) {
             "none"
         );
     }
+}
+
+/// The grid at the usual pair packed into slices that are long enough, and by buffers that have grown
+/// before and are empty; beside both the Rust's packing, into vectors that have grown before.
+fn packing(frequency: usize) {
+    let lists = Lattice::new(frequency).lists;
+    let rust_grid = rust::FaceGrid::new(&lists.vertices, &lists.neighbors);
+    let slices = Slices::new(&lists, &rust_grid);
+    let grid = slices.as_grid();
+    let [words, floats] = needed(&slices);
+    let (mut words, mut floats) = (vec![0; words], vec![0.0; floats]);
+    let (mut rust_words, mut rust_floats) = (words.clone(), floats.clone());
+    let mut buffers = GpuBuffers {
+        words: words.clone(),
+        floats: floats.clone(),
+    };
+    let mut times = [const { Vec::new() }; 3];
+    for _ in 0..MESH_ROUNDS {
+        times[0].push(once(|| {
+            grid.pack(&mut words, &mut floats, Taken::default())
+        }));
+        buffers.words.clear();
+        buffers.floats.clear();
+        times[1].push(once(|| buffers.append(&grid)));
+        rust_words.clear();
+        rust_floats.clear();
+        times[2].push(once(|| rust_grid.pack(&mut rust_words, &mut rust_floats)));
+    }
+    let [lent, grown, rust] = times.map(median);
+    print_times(&format!("pack {frequency}"), lent, rust);
+    print_times(&format!("pack {frequency}, GpuBuffers"), grown, rust);
 }
 
 /// The walk, and the renumbering by its order with one value a vertex. The Rust's slices and

@@ -48,7 +48,8 @@ pub enum Judge {
     /// W-208, whose mark the Rust has not, and of W-210, whose other pairs of factor and margin it
     /// has not.
     Beside,
-    /// The text of the rows: refusals, and answers on damaged grids.
+    /// The text of the rows: refusals, answers on damaged grids, and what is packed into slices of more
+    /// than 2^32 places.
     Rows,
     /// Other results of the engine.
     Engine,
@@ -180,8 +181,13 @@ impl Kinds {
     }
 
     pub fn all_reached(&self, tally: &mut Tally) {
+        self.all_reached_of("", tally);
+    }
+
+    /// Where inputs of two sorts are counted apart: the sort's name goes behind each kind.
+    pub fn all_reached_of(&self, sort: &str, tally: &mut Tally) {
         for &(kind, count) in &self.0 {
-            tally.reached(kind.to_string(), count);
+            tally.reached(format!("{kind}{sort}"), count);
         }
     }
 }

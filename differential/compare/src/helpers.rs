@@ -1,7 +1,8 @@
-//! Total order, rank, minimum, floor, ceiling and conversion, beside Rust's own methods of doubles.
+//! Total order, rank, minimum, floor, ceiling and conversions, beside Rust's own methods and casts of
+//! doubles.
 
 use crate::check::{same, Check, Judge, Kinds, Tally};
-use crate::operands::COMPARANDS;
+use crate::operands::{COMPARANDS, NARROWED};
 use crate::patterns::{
     Patterns, BIAS, EXPONENT_FIELDS, MIDDLE, SIGN, SIGNIFICAND, SIGNIFICAND_DIGITS,
 };
@@ -16,6 +17,8 @@ pub fn checks() -> Vec<Check> {
         Check::new("floor", floor),
         Check::new("ceil", ceil),
         Check::new("to_i64", to_i64),
+        Check::new("to_f32", to_f32),
+        Check::new("to_f32 by hand", to_f32_by_hand),
     ]
 }
 
@@ -242,4 +245,265 @@ fn to_i64(tally: &mut Tally) {
         kinds.count(&kinds_of_conversion(bits, by_fields));
     });
     kinds.all_reached(tally);
+}
+
+/// Whether two floats have the same bits. NaN bits are free.
+pub fn same_f32(x: f32, y: f32) -> bool {
+    x.to_bits() == y.to_bits() || (x.is_nan() && y.is_nan())
+}
+
+const SIGNIFICAND_DIGITS_OF_F32: u32 = 23;
+const INFINITY_OF_F32: u32 = f32::INFINITY.to_bits();
+/// The exponent field of a double whose magnitude is that of the least normal number of binary32.
+const LEAST_NORMAL_FIELD: u64 = BIAS - 126;
+
+/// How a finite double is rounded to binary32 (IEEE 754-2019, 4.3.1), in whole numbers from the fields
+/// of its pattern (3.4): its digits are split at the last place of the result.
+#[derive(Clone, Copy)]
+pub struct Narrowed {
+    /// The digits that stay, before the last one is rounded.
+    kept: u64,
+    /// The digits behind it, and half of a unit of the last one that stays.
+    rest: u64,
+    half: u64,
+    /// The pattern of the result's magnitude.
+    magnitude: u32,
+}
+
+impl Narrowed {
+    /// None for an infinity or a NaN.
+    pub fn of(bits: u64) -> Option<Self> {
+        let field = bits >> SIGNIFICAND_DIGITS & (EXPONENT_FIELDS - 1);
+        let (digits, field) = match field {
+            0 => (bits & SIGNIFICAND, 1),
+            _ => (bits & SIGNIFICAND | 1 << SIGNIFICAND_DIGITS, field),
+        };
+        if field == EXPONENT_FIELDS - 1 {
+            return None;
+        }
+        // Below the least normal number the last place stays. From 54 on nothing is left of a double.
+        let behind = u64::from(SIGNIFICAND_DIGITS - SIGNIFICAND_DIGITS_OF_F32)
+            + LEAST_NORMAL_FIELD.saturating_sub(field).min(30);
+        let (kept, rest) = (digits >> behind, digits & ((1 << behind) - 1));
+        let half = 1 << (behind - 1);
+        let up = rest > half || (rest == half && kept % 2 == 1);
+        let exponents = field.saturating_sub(LEAST_NORMAL_FIELD) << SIGNIFICAND_DIGITS_OF_F32;
+        let magnitude = exponents + kept + u64::from(up);
+        Some(Narrowed {
+            kept,
+            rest,
+            half,
+            magnitude: magnitude.min(u64::from(INFINITY_OF_F32)) as u32,
+        })
+    }
+
+    pub fn is_exact(self) -> bool {
+        self.rest == 0
+    }
+
+    pub fn is_halfway(self) -> bool {
+        self.rest == self.half
+    }
+
+    /// Whether the magnitude grows.
+    pub fn is_up(self) -> bool {
+        self.rest > self.half || (self.is_halfway() && self.kept % 2 == 1)
+    }
+
+    /// Whether the last place of the result is that of the subnormal numbers.
+    pub fn is_subnormal(self) -> bool {
+        self.half >> (SIGNIFICAND_DIGITS - SIGNIFICAND_DIGITS_OF_F32) != 0
+    }
+}
+
+/// The result by these fields.
+pub fn narrowed_by_fields(bits: u64) -> f32 {
+    let magnitude = match Narrowed::of(bits) {
+        Some(narrowed) => narrowed.magnitude,
+        None if bits & SIGNIFICAND == 0 => INFINITY_OF_F32,
+        None => return f32::NAN,
+    };
+    f32::from_bits(magnitude | ((bits & SIGN) >> 32) as u32)
+}
+
+/// Halfway from 0 to the least subnormal number of binary32, and from the greatest number to 2^128.
+const HALFWAY_TO_LEAST: u64 = (BIAS - 150) << SIGNIFICAND_DIGITS;
+const HALFWAY_TO_INFINITY: u64 = 0x47ef_ffff_f000_0000;
+
+/// The cases of a conversion to binary32, of one sign; whether a pattern is one.
+fn kinds_of_narrowed(bits: u64, narrowed: Option<Narrowed>) -> [(&'static str, bool); 21] {
+    let magnitude = bits & !SIGN;
+    let is_nan = f64::from_bits(bits).is_nan();
+    let finite = |of: fn(Narrowed) -> bool| narrowed.is_some_and(of);
+    let normal = finite(|x| !x.is_subnormal() && x.magnitude != INFINITY_OF_F32);
+    let subnormal = finite(|x| x.is_subnormal() && x.rest + x.kept != 0);
+    let exact = finite(Narrowed::is_exact);
+    let halfway = finite(Narrowed::is_halfway);
+    let up = finite(Narrowed::is_up);
+    let nearer = !exact && !halfway;
+    let least_normal = finite(|x| x.magnitude == 1 << SIGNIFICAND_DIGITS_OF_F32);
+    let next_power = finite(|x| x.magnitude.trailing_zeros() >= SIGNIFICAND_DIGITS_OF_F32);
+    [
+        ("normal: a value of binary32", normal && exact),
+        ("normal: nearer to the value below", normal && nearer && !up),
+        ("normal: nearer to the value above", normal && nearer && up),
+        (
+            "normal: halfway, the even one below",
+            normal && halfway && !up,
+        ),
+        (
+            "normal: halfway, the even one above",
+            normal && halfway && up,
+        ),
+        ("normal: up to a power of 2", normal && up && next_power),
+        ("subnormal: a value of binary32", subnormal && exact),
+        (
+            "subnormal: nearer to the value below",
+            subnormal && nearer && !up,
+        ),
+        (
+            "subnormal: nearer to the value above",
+            subnormal && nearer && up,
+        ),
+        (
+            "subnormal: halfway, the even one below",
+            subnormal && halfway && !up,
+        ),
+        (
+            "subnormal: halfway, the even one above",
+            subnormal && halfway && up,
+        ),
+        (
+            "subnormal: up to the least normal number",
+            subnormal && up && least_normal,
+        ),
+        ("a zero", magnitude == 0),
+        ("to 0: 2^-150, halfway", magnitude == HALFWAY_TO_LEAST),
+        (
+            "to 2^-149: the next double above",
+            magnitude == HALFWAY_TO_LEAST + 1,
+        ),
+        (
+            "finite: the last double below 2^128 - 2^103",
+            magnitude == HALFWAY_TO_INFINITY - 1,
+        ),
+        (
+            "infinite: 2^128 - 2^103, halfway",
+            magnitude == HALFWAY_TO_INFINITY,
+        ),
+        (
+            "infinite: the next double above",
+            magnitude == HALFWAY_TO_INFINITY + 1,
+        ),
+        ("an infinity", f64::from_bits(bits).is_infinite()),
+        ("a quiet NaN", is_nan && is_quiet_nan(f64::from_bits(bits))),
+        (
+            "a signaling NaN",
+            is_nan && !is_quiet_nan(f64::from_bits(bits)),
+        ),
+    ]
+}
+
+/// Rust's cast rounds to nearest, ties to even (IEEE 754-2019, 4.3.1). The fields have to give the same.
+fn to_f32(tally: &mut Tally) {
+    let mut kinds = [Kinds::default(), Kinds::default()];
+    // Of either sign: operands by exponent field, results by theirs, subnormal ones by their digits.
+    let mut operands = [[0; EXPONENT_FIELDS as usize]; 2];
+    let mut results = [[0; 256]; 2];
+    let mut lengths = [[0; SIGNIFICAND_DIGITS_OF_F32 as usize + 1]; 2];
+    for class in NARROWED {
+        class.each(class.count, |[x]| {
+            let bits = x.to_bits();
+            compare_narrowed(tally, x);
+            let sign = usize::from(x.is_sign_negative());
+            let narrowed = Narrowed::of(bits);
+            kinds[sign].count(&kinds_of_narrowed(bits, narrowed));
+            operands[sign][(bits >> SIGNIFICAND_DIGITS & (EXPONENT_FIELDS - 1)) as usize] += 1;
+            if let Some(Narrowed { magnitude, .. }) = narrowed {
+                let field = magnitude >> SIGNIFICAND_DIGITS_OF_F32;
+                results[sign][field as usize] += 1;
+                if field == 0 {
+                    lengths[sign][(32 - magnitude.leading_zeros()) as usize] += 1;
+                }
+            }
+        });
+    }
+    kinds[0].all_reached_of(", +", tally);
+    kinds[1].all_reached_of(", -", tally);
+    let rarest = |counts: &[u64]| counts.iter().copied().min().unwrap_or(0);
+    let reached = [
+        (
+            "exponent field of a double",
+            operands.map(|counts| rarest(&counts)),
+        ),
+        (
+            "exponent field of a result",
+            results.map(|counts| rarest(&counts)),
+        ),
+        (
+            "length of a subnormal result",
+            lengths.map(|counts| rarest(&counts[1..])),
+        ),
+    ];
+    for (case, counts) in reached {
+        tally.reached(
+            format!("the rarest {case}, of either sign"),
+            rarest(&counts),
+        );
+    }
+}
+
+fn compare_narrowed(tally: &mut Tally, x: f64) {
+    let (ours, rust) = (koshirga::to_f32(x), x as f32);
+    let by_fields = narrowed_by_fields(x.to_bits());
+    tally.compare(
+        Judge::Rust,
+        same_f32(ours, rust) && same_f32(rust, by_fields),
+        || {
+            let [ours, rust, by_fields] = [ours, rust, by_fields].map(f32::to_bits);
+            format!(
+                "to_f32({:#018x}): {ours:#010x}, Rust {rust:#010x}, by its fields {by_fields:#010x}",
+                x.to_bits()
+            )
+        },
+    );
+}
+
+/// Patterns of doubles with those of their binary32.
+const NARROWED_BY_HAND: [(u64, u32); 18] = [
+    (0x0000_0000_0000_0000, 0x0000_0000),
+    (0x8000_0000_0000_0000, 0x8000_0000),
+    // 0.1; −2.
+    (0x3fb9_9999_9999_999a, 0x3dcc_cccd),
+    (0xc000_0000_0000_0000, 0xc000_0000),
+    // 1 + 2^−24, halfway, and 1 + 3·2^−24, too: the even one below, and above.
+    (0x3ff0_0000_1000_0000, 0x3f80_0000),
+    (0x3ff0_0000_1000_0001, 0x3f80_0001),
+    (0x3ff0_0000_3000_0000, 0x3f80_0002),
+    (0x3ff0_0000_2fff_ffff, 0x3f80_0001),
+    // 2^−150, the next double, −2^−151, 3·2^−150.
+    (0x3690_0000_0000_0000, 0x0000_0000),
+    (0x3690_0000_0000_0001, 0x0000_0001),
+    (0xb680_0000_0000_0000, 0x8000_0000),
+    (0x36a8_0000_0000_0000, 0x0000_0002),
+    // 2^−126 less 2^−150, halfway.
+    (0x380f_ffff_f000_0000, 0x0080_0000),
+    // The last double below 2^128 − 2^103, and that number.
+    (0x47ef_ffff_efff_ffff, 0x7f7f_ffff),
+    (0x47ef_ffff_f000_0000, 0x7f80_0000),
+    (0xc7ef_ffff_f000_0000, 0xff80_0000),
+    (0x7fef_ffff_ffff_ffff, 0x7f80_0000),
+    (0xfff0_0000_0000_0000, 0xff80_0000),
+];
+
+/// The cast, the fields and the engine, each held to what is known by hand.
+fn to_f32_by_hand(tally: &mut Tally) {
+    for (bits, hand) in NARROWED_BY_HAND {
+        let x = f64::from_bits(bits);
+        let ours = koshirga::to_f32(x).to_bits();
+        let others = [x as f32, narrowed_by_fields(bits)].map(f32::to_bits);
+        tally.compare(Judge::Rust, ours == hand && others == [hand; 2], || {
+            format!("to_f32({bits:#018x}): {ours:#010x}, Rust and by its fields {others:#010x?}, by hand {hand:#010x}")
+        });
+    }
 }

@@ -11,6 +11,7 @@
 mod analytic;
 mod arithmetic;
 mod bench;
+mod buffers;
 mod check;
 mod directions;
 mod grids;
@@ -25,7 +26,9 @@ mod patterns;
 mod queries;
 mod record;
 mod renumber;
+mod reserved;
 mod rows;
+mod stored;
 mod vectors;
 mod walk;
 mod weights;
@@ -37,7 +40,7 @@ use std::io::{self, BufWriter, Write};
 use std::path::Path;
 use std::process::ExitCode;
 
-const TOPICS: [Topic; 12] = [
+const TOPICS: [Topic; 13] = [
     Topic::new("helpers", helpers::checks),
     Topic::new("arithmetic", arithmetic::checks),
     Topic::new("vectors", vectors::checks),
@@ -49,6 +52,7 @@ const TOPICS: [Topic; 12] = [
     Topic::new("marks", marks::checks),
     Topic::new("grids", grids::checks),
     Topic::new("queries", queries::checks),
+    Topic::new("buffers", buffers::checks),
     Topic::new("invariance", invariance::checks),
 ];
 

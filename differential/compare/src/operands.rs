@@ -1,5 +1,6 @@
-//! Operands of the fused multiply-add, of the root and of the minimum, by class: each class is a way
-//! in which alignment, rounding, an order or an exception can go wrong. Seeds are fixed.
+//! Operands of the fused multiply-add, of the root, of the minimum and of the conversion to binary32,
+//! by class: each class is a way in which alignment, rounding, an order or an exception can go wrong.
+//! Seeds are fixed.
 
 use crate::patterns::{
     Random, BIAS, EDGE_SIGNIFICANDS, EXPONENT_FIELDS, SIGN, SIGNIFICAND, SIGNIFICAND_DIGITS,
@@ -164,6 +165,64 @@ pub const COMPARANDS: &[Class<2>] = &[
         count: MILLION,
         seed: 63,
         draw: special_comparands,
+    },
+];
+
+/// What is converted to binary32.
+pub const NARROWED: &[Class<1>] = &[
+    Class {
+        name: "to_f32, random patterns",
+        count: 20 * MILLION,
+        seed: 71,
+        draw: |random, _| [f64::from_bits(random.bits())],
+    },
+    Class {
+        name: "to_f32, range of binary32",
+        count: 20 * MILLION,
+        seed: 72,
+        draw: range_of_binary32,
+    },
+    Class {
+        name: "to_f32, beside a value",
+        count: 15 * MILLION,
+        seed: 73,
+        draw: beside_a_value,
+    },
+    Class {
+        name: "to_f32, halfway",
+        count: 20 * MILLION,
+        seed: 74,
+        draw: halfway_values,
+    },
+    Class {
+        name: "to_f32, subnormal results",
+        count: 10 * MILLION,
+        seed: 75,
+        draw: subnormal_values,
+    },
+    Class {
+        name: "to_f32, subnormal halfway",
+        count: 15 * MILLION,
+        seed: 76,
+        draw: subnormal_halfway_values,
+    },
+    Class {
+        name: "to_f32, edge of overflow",
+        count: 5 * MILLION,
+        seed: 77,
+        draw: edge_of_binary32,
+    },
+    Class {
+        name: "to_f32, beside powers of 2",
+        count: 5 * MILLION,
+        seed: 78,
+        draw: |random, at| beside_a_power(random, at).map(|x| with_any_sign(random, x)),
+    },
+    Class {
+        name: "to_f32, all exponents",
+        count: 2 * EXPONENT_FIELDS as usize * EDGE_SIGNIFICANDS.len(),
+        seed: 79,
+        draw: all_exponents,
     },
 ];
 
@@ -571,4 +630,78 @@ fn all_exponents(_: &mut Random, at: usize) -> [f64; 1] {
     [f64::from_bits(
         sign | exponent << SIGNIFICAND_DIGITS | significand,
     )]
+}
+
+/// From below half the least subnormal of binary32 to beyond its greatest number.
+fn range_of_binary32(random: &mut Random, _: usize) -> [f64; 1] {
+    let exponent = random.between(-152, 128);
+    [number(random, exponent)]
+}
+
+/// Any finite value of binary32, its subnormals among them, moved by −2 to 2 ulps of a double in turn.
+fn beside_a_value(random: &mut Random, at: usize) -> [f64; 1] {
+    let bits = random.bits() as u32;
+    // The last exponent field is that of infinities and NaNs.
+    let value = f32::from_bits(if bits << 1 < 0xff << 24 {
+        bits
+    } else {
+        bits ^ 1 << 30
+    });
+    [in_turn(f64::from(value), at)]
+}
+
+/// `x` moved by −2 to 2 ulps in turn. A zero is moved upward alone.
+fn in_turn(x: f64, at: usize) -> f64 {
+    let magnitude = (x.abs().to_bits() + at as u64 % 5).saturating_sub(2);
+    f64::from_bits(x.to_bits() & SIGN | magnitude)
+}
+
+/// The digits that a normal number of binary32 has not.
+const NARROWED_DIGITS: u32 = SIGNIFICAND_DIGITS - 23;
+
+/// Halfway between two neighbours of binary32, from a normal number upward, which in one of four ends in
+/// ones; moved by −2 to 2 ulps in turn.
+fn halfway_values(random: &mut Random, at: usize) -> [f64; 1] {
+    let bits = random.with_exponent(BIAS - 126, BIAS + 127);
+    let ones = match random.below(4) {
+        0 => SIGNIFICAND >> (random.below(2) * random.below(24)),
+        _ => 0,
+    };
+    let above = (bits | ones) >> NARROWED_DIGITS << NARROWED_DIGITS;
+    [in_turn(
+        f64::from_bits(above | 1 << (NARROWED_DIGITS - 1)),
+        at,
+    )]
+}
+
+/// Below the least normal number of binary32.
+fn subnormal_values(random: &mut Random, _: usize) -> [f64; 1] {
+    let exponent = random.between(-151, -127);
+    [number(random, exponent)]
+}
+
+/// An odd multiple of 2^−150 is halfway between two subnormals of binary32, of 0 to 23 digits; moved by
+/// −2 to 2 ulps in turn.
+fn subnormal_halfway_values(random: &mut Random, at: usize) -> [f64; 1] {
+    let below = random.bits() >> 41 >> random.below(24);
+    let halfway = scaled(2 * below + 1, -150);
+    [in_turn(with_any_sign(random, halfway), at)]
+}
+
+/// The greatest finite number of binary32, what is halfway from there to 2^128, and 2^128 itself, moved
+/// by −8 to 8 ulps in turn; then by any number of ulps below 2^32.
+fn edge_of_binary32(random: &mut Random, at: usize) -> [f64; 1] {
+    let edges = [
+        f64::from(f32::MAX),
+        scaled((1 << 25) - 1, 103),
+        scaled(1, 128),
+    ];
+    let (edge, moves) = (edges[at % 3].to_bits(), at / 3);
+    let bits = if moves < 17 {
+        edge + moves as u64 - 8
+    } else {
+        let ulps = random.bits() >> (32 + random.below(32));
+        random.near(edge, ulps)
+    };
+    [with_any_sign(random, f64::from_bits(bits))]
 }

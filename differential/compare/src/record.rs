@@ -9,6 +9,7 @@ use crate::helpers::{conversion_by_fields, minimum_number_of};
 use crate::marks::exchange;
 use crate::meshes::{permutation, Flat, Lattice, Lists, FREQUENCIES};
 use crate::operands::{each_exponent, special_numbers, Class, COMPARANDS, RADICANDS, TRIPLES};
+use crate::pairs::{pair, side, FACTORS};
 use crate::patterns::{Patterns, Random, SIGN};
 use crate::queries::{self, Answers, Slices};
 use crate::renumber::{self, State};
@@ -44,10 +45,13 @@ const ZERO_GRIDS: usize = 5;
 /// Meshes whose lists ascend, almost ascend or were sorted, and renumberings by the identity.
 const ORDERED: usize = 60;
 const IDENTITIES: usize = 6;
+/// Frequencies whose lattices are packed, and random grids that are.
+const PACKED: [usize; 5] = [1, 2, 3, 7, 20];
+const PACKINGS: usize = 60;
 
 /// What the wrong records are made of: the file of a right one, the record in it, and the word of its
 /// answers that is changed, both counted from 0.
-const WRONG: [(&str, usize, usize); 17] = [
+const WRONG: [(&str, usize, usize); 23] = [
     ("mul_add", 0, 0),
     ("sqrt", 0, 0),
     // The conversion, of a negative number and of a positive one.
@@ -76,6 +80,15 @@ const WRONG: [(&str, usize, usize); 17] = [
     ("grid_queries", 34, 44),
     // The minimum of +0 and the number next below zero.
     ("minimum_number", 3, 0),
+    // The binary32 of 0.1.
+    ("to_f32", 0, 0),
+    // Of the grid of (1, 1, 1): where the cell ids begin, a cell start, a rounded coordinate.
+    ("packings", 0, 3),
+    ("packings", 0, 13),
+    ("packings", 0, 40),
+    // The hashes of words and floats: u32 and f32.
+    ("packed_lattices", 0, 14),
+    ("packed_lattices", 0, 15),
 ];
 /// The same for the mark after a lattice, a reading and a renumbering: the file, and what becomes of
 /// the mark. The shortest record of this kind is taken.
@@ -86,13 +99,14 @@ const WRONG_MARKS: [(&str, Marked); 4] = [
     ("renumberings", accepted(false, true)),
 ];
 /// The same for the index of row 18: the file, and the call whose first index is changed.
-const WRONG_INDICES: [(&str, &str); 6] = [
+const WRONG_INDICES: [(&str, &str); 7] = [
     ("meshes", READING),
     ("meshes", WALK),
     ("meshes", BUILDER),
     ("renumberings", RENUMBERING),
     ("grid_queries", NEAREST),
     ("grid_queries", LOCATION),
+    ("packings", PACKING),
 ];
 /// Files of which one record has +0 for −0 in its answers, where the clause tells the two apart: a
 /// minimum, and a least weight that was +0 by document 01.
@@ -107,11 +121,13 @@ const BUILDER: &str = "builder";
 const RENUMBERING: &str = "renumbering";
 const NEAREST: &str = "nearest";
 const LOCATION: &str = "location";
+const PACKING: &str = "packing";
 /// The rows that have to refuse some call of a file.
-const REACHED: [(&str, &[u32]); 3] = [
+const REACHED: [(&str, &[u32]); 4] = [
     ("meshes", &[2, 3, 17, 18, 4, 5, 8, 13]),
     ("renumberings", &[2, 3, 17, 18, 4, 6, 7, 8]),
     ("grid_queries", &[2, 3, 9, 18, 11, 4, 12]),
+    ("packings", &[2, 19, 20, 3, 17, 18, 4, 5, 8]),
 ];
 
 /// A call that is lent the mark: whether it is accepted, and the mark before and after it.
@@ -177,6 +193,7 @@ const MARKED: [(&str, &[Marked]); 4] = [
 
 /// What stands in lent places before a call.
 const F64_BEFORE: f64 = 1.5;
+const F32_BEFORE: f32 = 1.5;
 const U32_BEFORE: u32 = 0xdead_beef;
 const U16_BEFORE: u16 = 0xbeef;
 
@@ -250,6 +267,12 @@ impl Record {
         list.iter().fold(self, |record, &x| record.double(x))
     }
 
+    /// Each by its bit pattern. None is a NaN.
+    fn floats(self, list: &[f32]) -> Self {
+        list.iter()
+            .fold(self, |record, x| record.number(x.to_bits()))
+    }
+
     fn lengths(self, lengths: &[usize]) -> Self {
         lengths
             .iter()
@@ -313,6 +336,14 @@ impl Record {
             .number(answer.map_or(0, |built| built.held))
     }
 
+    /// The answer of a packing.
+    fn packed(self, answer: Result<[u32; 7], Reason>) -> Self {
+        self.outcome()
+            .refusal(answer.err())
+            .numbers(&answer.unwrap_or_default())
+            .index(PACKING, answer.err())
+    }
+
     fn answers(self, answers: &Answers) -> Self {
         let row = answers.nearest.as_ref().err().copied();
         let record = self.outcome().refusal(row);
@@ -354,6 +385,14 @@ impl Record {
         self.double(least)
     }
 
+    /// The words of another record behind this one's.
+    fn followed_by(mut self, other: Record) -> Self {
+        let places = other.answers.iter().map(|place| self.words.len() + place);
+        self.answers.extend(places);
+        self.words.extend(other.words);
+        self
+    }
+
     fn has(&self, mark: Marked) -> bool {
         self.marked.is_some_and(|(marked, _)| marked == mark)
     }
@@ -393,6 +432,10 @@ fn hash_f64s(list: &[f64]) -> u64 {
     hash(list.iter().map(|x| x.to_bits().to_le_bytes()))
 }
 
+fn hash_f32s(list: &[f32]) -> u64 {
+    hash(list.iter().map(|x| x.to_bits().to_le_bytes()))
+}
+
 fn hash_u32s(list: &[u32]) -> u64 {
     hash(list.iter().map(|x| x.to_le_bytes()))
 }
@@ -421,6 +464,9 @@ pub fn write(folder: &Path) -> io::Result<()> {
         ("renumberings", renumberings),
         ("grid_queries", grid_queries),
         ("minimum_number", minimum_number),
+        ("to_f32", to_f32),
+        ("packings", packings),
+        ("packed_lattices", packed_lattices),
     ]
     .map(|(name, records)| (name.to_string(), records()))
     .into();
@@ -659,6 +705,84 @@ fn minimum_number() -> Records {
                 .doubles(&[x, y])
                 .outcome()
                 .least(&[x, y], minimum_number_of(x, y))
+        })
+        .collect()
+}
+
+/// The least normal binary32 and the greatest finite one; and 2^128 − 2^103, from which on a double
+/// gives an infinity (IEEE 754-2019, 4.3.1).
+const LEAST_NORMAL_FLOAT: f64 = f32::MIN_POSITIVE as f64;
+const GREATEST_FLOAT: f64 = f32::MAX as f64;
+const FIRST_INFINITE: u64 = 0x47ef_ffff_f000_0000;
+
+/// Without signs: plain numbers and ties; both ends of the finite binary32, of its subnormal ones and
+/// of what gives zero, with the doubles beside them; zero, both ends of the doubles, and an infinity.
+fn converted_by_hand() -> Vec<f64> {
+    let beside = |x: f64| [x.next_down(), x, x.next_up()];
+    let half_of_least = 2f64.powi(-150);
+    let ends = [
+        half_of_least,
+        3.0 * half_of_least,
+        LEAST_NORMAL_FLOAT,
+        LEAST_NORMAL_FLOAT - half_of_least,
+        LEAST_NORMAL_FLOAT - 2.0 * half_of_least,
+        GREATEST_FLOAT,
+        f64::from_bits(FIRST_INFINITE),
+        2f64.powi(128),
+    ];
+    let plain = [
+        0.1,
+        1.0,
+        1.0 + 2f64.powi(-24),
+        1.0 + 3.0 * 2f64.powi(-24),
+        2f64.powi(-151),
+    ];
+    let of_doubles = [
+        0.0,
+        f64::from_bits(1),
+        f64::MIN_POSITIVE,
+        f64::MAX,
+        f64::INFINITY,
+    ];
+    [&plain[..], &ends.map(beside).concat(), &of_doubles].concat()
+}
+
+/// Of a binary32 that is not negative and has a finite next one: halfway to that; and the double before
+/// this tie, the double behind it, or the binary32 itself, in turn.
+fn beside_a_tie(at: usize, bits: u32) -> [f64; 2] {
+    let value = f64::from(f32::from_bits(bits));
+    let tie = 0.5 * (value + f64::from(f32::from_bits(bits + 1)));
+    [tie, [tie.next_down(), tie.next_up(), value][at % 3]]
+}
+
+/// Numbers by hand with both signs, and a NaN; in every exponent of binary32 two ties, behind an even
+/// significand and behind an odd one, with a double beside each; random patterns.
+fn to_f32() -> Records {
+    let mut random = Random::new(111);
+    let mut ties = Vec::new();
+    for field in 0..255u32 {
+        for parity in [0, 1] {
+            let at = (2 * field + parity) as usize;
+            // The greatest fraction is left out: an infinity may stand behind it.
+            let fraction = random.below((1 << 22) - 1) as u32 * 2 + parity;
+            let sign = if random.below(2) == 0 { 1.0 } else { -1.0 };
+            ties.extend(beside_a_tie(at, field << 23 | fraction).map(|x| sign * x));
+        }
+    }
+    let mut patterns = Patterns::new(112);
+    let by_hand = converted_by_hand().into_iter().flat_map(|x| [x, -x]);
+    by_hand
+        .chain([f64::NAN])
+        .chain(ties)
+        .chain((0..PATTERNS / 10).map(|_| f64::from_bits(patterns.random())))
+        .map(|x| {
+            let record = Record::default().double(x).outcome();
+            let converted = x as f32;
+            if converted.is_nan() {
+                record.double(f64::NAN)
+            } else {
+                record.floats(&[converted])
+            }
         })
         .collect()
 }
@@ -1175,8 +1299,8 @@ fn renumbering(state: &State, ids: &[u32], each: usize, places: [usize; 5]) -> R
     }
 }
 
-/// A grid, and how many directions follow.
-fn grid_record(slices: &Slices, directions: usize) -> Record {
+/// A grid as it is stored.
+fn stored(slices: &Slices) -> Record {
     Record::default()
         .length(slices.positions.len())
         .lengths(&grid_lengths(slices))
@@ -1186,7 +1310,11 @@ fn grid_record(slices: &Slices, directions: usize) -> Record {
         .numbers(&slices.cell_ids)
         .numbers(&slices.triangle_starts)
         .numbers(&slices.triples)
-        .length(directions)
+}
+
+/// A grid, and how many directions follow.
+fn grid_record(slices: &Slices, directions: usize) -> Record {
+    stored(slices).length(directions)
 }
 
 /// Queries of random grids, and of such as have zeros of both signs among the weights. A damaged
@@ -1266,6 +1394,340 @@ fn zero_grid(lists: &Lists, directions: &[Vector3], first: f64) -> Option<Record
         record.direction(*v).answers(answers)
     });
     (!asked.is_empty()).then_some(record)
+}
+
+/// A call of the packing: a grid, and of words and floats the places and how many of them are taken.
+#[derive(Clone)]
+struct Packing {
+    grid: Slices,
+    places: [usize; 2],
+    taken: [usize; 2],
+}
+
+impl Packing {
+    /// With so many places more than are taken and filled.
+    fn new(grid: Slices, taken: [usize; 2], surplus: [usize; 2]) -> Self {
+        let filled = [grid_lengths(&grid).iter().sum(), grid.positions.len()];
+        Packing {
+            grid,
+            places: [0, 1].map(|i: usize| taken[i] + filled[i] + surplus[i]),
+            taken,
+        }
+    }
+
+    /// The call that the Rust's packing of the grid answers, or that is refused.
+    fn record(&self, answer: Result<&rust::FaceGrid, Reason>) -> Record {
+        let (mut words, mut floats) = (Vec::new(), Vec::new());
+        let level = answer.map(|grid| {
+            words.resize(self.taken[0], U32_BEFORE);
+            floats.resize(self.taken[1], F32_BEFORE);
+            grid.pack(&mut words, &mut floats)
+        });
+        stored(&self.grid)
+            .double(self.grid.settings.factor)
+            .number(self.grid.settings.margin)
+            .lengths(&self.places)
+            .lengths(&self.taken)
+            .packed(level)
+            .numbers(&over(U32_BEFORE, self.places[0], &words))
+            .floats(&over(F32_BEFORE, self.places[1], &floats))
+    }
+}
+
+type Change = fn(&mut Packing);
+
+/// Rows, and the changes by which each refuses a packing of three vertices, one on each axis: what the
+/// row names alone, or beside what a row that comes later does.
+const REFUSED_PACKINGS: [(Reason, &[Change]); 17] = [
+    (
+        Reason::row(2),
+        &[
+            |call| call.grid.positions.clear(),
+            |call| shorten(&mut call.grid.positions),
+            |call| {
+                shorten(&mut call.grid.positions);
+                call.grid.settings.factor = f64::NAN;
+            },
+        ],
+    ),
+    (
+        Reason::row(19),
+        &[
+            |call| call.grid.settings.factor = 0.5f64.next_down(),
+            |call| call.grid.settings.factor = 4.0f64.next_up(),
+            |call| call.grid.settings.factor = f64::INFINITY,
+            |call| call.grid.settings = pair(f64::NAN, 4),
+        ],
+    ),
+    (
+        Reason::row(20),
+        &[
+            |call| call.grid.settings.margin = 4,
+            |call| call.grid.settings.margin = u32::MAX,
+            |call| {
+                call.grid.settings.margin = 4;
+                call.grid.side = 3;
+            },
+        ],
+    ),
+    (
+        Reason::row(2),
+        &[
+            |call| call.grid.side = 0,
+            |call| call.grid.side = 3,
+            |call| {
+                call.grid.side = 1;
+                shorten(&mut call.grid.cell_starts);
+            },
+        ],
+    ),
+    (
+        Reason::row(3),
+        &[
+            |call| call.grid.cell_starts.clear(),
+            |call| shorten(&mut call.grid.cell_starts),
+            |call| lengthen(&mut call.grid.cell_starts),
+            |call| call.grid.triangle_starts.clear(),
+            |call| shorten(&mut call.grid.triangle_starts),
+            |call| lengthen(&mut call.grid.triangle_starts),
+            |call| {
+                call.grid.cell_starts[0] = 1;
+                lengthen(&mut call.grid.triangle_starts);
+            },
+        ],
+    ),
+    (
+        Reason::row(17),
+        &[
+            |call| call.grid.cell_starts[0] = 1,
+            |call| lengthen(&mut call.grid.cell_ids),
+            |call| shorten(&mut call.grid.cell_ids),
+            |call| call.grid.triangle_starts[0] = 1,
+            |call| lengthen(&mut call.grid.triples),
+            |call| shorten(&mut call.grid.triples),
+            |call| call.grid.triples.extend([0, 1, 2]),
+            |call| call.grid.triples.truncate(1),
+            |call| {
+                fall(&mut call.grid.cell_starts, 2);
+                call.grid.triangle_starts[0] = 1;
+            },
+        ],
+    ),
+    (
+        Reason::fall(2),
+        &[|call| fall(&mut call.grid.cell_starts, 2)],
+    ),
+    (
+        Reason::fall(9),
+        &[|call| {
+            fall(&mut call.grid.cell_starts, 9);
+            fall(&mut call.grid.cell_starts, 20);
+        }],
+    ),
+    (
+        Reason::fall(24),
+        &[|call| fall(&mut call.grid.cell_starts, 24)],
+    ),
+    (
+        Reason::fall(2),
+        &[|call| fall(&mut call.grid.triangle_starts, 2)],
+    ),
+    (
+        Reason::fall(3),
+        &[|call| fall(&mut call.grid.triangle_starts, 3)],
+    ),
+    (
+        Reason::fall(16),
+        &[|call| {
+            fall(&mut call.grid.cell_starts, 16);
+            fall(&mut call.grid.triangle_starts, 2);
+        }],
+    ),
+    (
+        Reason::fall(3),
+        &[|call| {
+            fall(&mut call.grid.triangle_starts, 3);
+            call.grid.cell_ids[0] = 3;
+        }],
+    ),
+    (
+        Reason::row(4),
+        &[
+            |call| call.grid.cell_ids[0] = 3,
+            |call| set_last(&mut call.grid.cell_ids, 3),
+            |call| call.grid.triples[0] = 3,
+            |call| set_last(&mut call.grid.triples, u16::MAX),
+            |call| {
+                call.grid.triples[0] = 3;
+                call.grid.positions[0] = f64::NAN;
+            },
+        ],
+    ),
+    (
+        Reason::row(5),
+        &[
+            |call| call.grid.positions[0] = f64::INFINITY,
+            |call| set_last(&mut call.grid.positions, f64::NAN),
+            |call| call.grid.positions[4] = 2f64.powi(20).next_up(),
+            |call| call.grid.positions[..3].fill(0.0),
+            |call| {
+                call.grid.positions[..3].fill(0.0);
+                call.places = [0; 2];
+            },
+        ],
+    ),
+    (
+        Reason::row(8),
+        &[
+            |call| call.places[0] -= 1,
+            |call| call.places[1] -= 1,
+            |call| call.taken[0] += 1,
+            |call| call.taken[1] += 1,
+        ],
+    ),
+    // The count of taken places alone.
+    (
+        Reason::row(8),
+        &[
+            |call| call.taken[0] = call.places[0] + 1,
+            |call| call.taken[1] = call.places[1] + 1,
+            |call| call.taken[0] = usize::MAX,
+            |call| call.taken[1] = usize::MAX,
+        ],
+    ),
+];
+
+fn shorten<T>(list: &mut Vec<T>) {
+    list.pop();
+}
+
+/// The last one stands there twice.
+fn lengthen<T: Copy>(list: &mut Vec<T>) {
+    list.extend(list.last().copied());
+}
+
+fn set_last<T>(list: &mut [T], value: T) {
+    if let Some(last) = list.last_mut() {
+        *last = value;
+    }
+}
+
+/// The start there is below the one before it, which is not the first.
+fn fall(starts: &mut [u32], at: usize) {
+    starts[at - 1] = starts[at] + 1;
+}
+
+/// The grid of (1, 1, 1) twice, the second behind the first; random grids behind taken places, with
+/// places left, each with a pair that gives its side, as the lists alone are packed; and the refusals.
+fn packings() -> Records {
+    let of = |lists: &Lists| {
+        let grid = rust::FaceGrid::new(&lists.vertices, &lists.neighbors);
+        (Slices::new(lists, &grid), grid)
+    };
+    let (slices, grid) = of(&Lists::complete(vec![[1.0; 3]]));
+    let mut records: Records = [[0, 0], [30, 3]]
+        .map(|taken| Packing::new(slices.clone(), taken, [0; 2]).record(Ok(&grid)))
+        .into();
+    let mut random = Random::new(113);
+    while records.len() < 2 + PACKINGS {
+        let lists = small(&mut random, 14, 90);
+        if !row_5(&lists.flat()) {
+            let (mut slices, grid) = of(&lists);
+            let count = lists.vertices.len();
+            let same_side = |factor: &f64| side(count, *factor) == slices.side as usize;
+            let factors: Vec<f64> = FACTORS.into_iter().filter(same_side).collect();
+            let factor = factors[random.below(factors.len() as u64) as usize];
+            slices.settings = pair(factor, random.below(4) as u32);
+            let [taken, surplus] = [4, 3].map(|limit| [0; 2].map(|_| random.below(limit) as usize));
+            records.push(Packing::new(slices, taken, surplus).record(Ok(&grid)));
+        }
+    }
+    let axes = [[1.0, 0.0, 0.0], [0.0, 1.0, 0.0], [0.0, 0.0, 1.0]];
+    let exact = Packing::new(of(&Lists::complete(axes.into())).0, [2, 1], [0; 2]);
+    for (reason, changes) in REFUSED_PACKINGS {
+        records.extend(changes.iter().map(|change| {
+            let mut packing = exact.clone();
+            change(&mut packing);
+            packing.record(Err(reason))
+        }));
+    }
+    records
+}
+
+/// Lattices packed by the Rust, each behind the one before it, some of them renumbered by their walks,
+/// and so many places of words and floats more than are filled.
+fn packed_together(lattices: &[(usize, bool)], surplus: [usize; 2]) -> Record {
+    let (mut words, mut floats) = (Vec::new(), Vec::new());
+    let mut grids = Record::default();
+    for &(frequency, is_renumbered) in lattices {
+        let lattice = Lattice::new(frequency);
+        let mesh = lattice.lists.flat();
+        let lengths = needed(&mesh, &lattice.ids);
+        grids = grids
+            .length(frequency)
+            .lengths(&lengths)
+            .outcome()
+            .number(0u32)
+            .call()
+            .mark(is_renumbered);
+        let lists = if is_renumbered {
+            let count = mesh.count();
+            let (walk, order, queue) = walk::rust_outcome(&lattice.lists.neighbors, count, count);
+            let state = State {
+                values: Vec::new(),
+                lists_ascend: true,
+                mesh,
+            };
+            grids = grids
+                .lengths(&[count; 2])
+                .counted(WALK, walk)
+                .number(hash_u32s(&order))
+                .number(hash_u32s(&queue))
+                .lengths(&[1])
+                .lengths(&[state.longest(&order); 5])
+                .mark(true)
+                .outcome()
+                .refusal(None)
+                .index(RENUMBERING, None)
+                .mark(true);
+            let permutation = rust::bfs_vertex_permutation(&lattice.lists.neighbors);
+            let mut left = Left::default();
+            let renumbered = renumber::rust_renumbered(&mut left, &state, &permutation, 1);
+            renumbered.state.mesh.lists()
+        } else {
+            lattice.lists
+        };
+        let grid = rust::FaceGrid::new(&lists.vertices, &lists.neighbors);
+        let slices = Slices::new(&lists, &grid);
+        grids = grids
+            .lengths(&grid_lengths(&slices))
+            .built(Ok(built_beside(&slices)))
+            .packed(Ok(grid.pack(&mut words, &mut floats)));
+    }
+    let words = over(U32_BEFORE, words.len() + surplus[0], &words);
+    let floats = over(F32_BEFORE, floats.len() + surplus[1], &floats);
+    Record::default()
+        .lengths(&[words.len(), floats.len()])
+        .length(lattices.len())
+        .followed_by(grids)
+        .outcome()
+        .number(hash_u32s(&words))
+        .number(hash_f32s(&floats))
+}
+
+/// Each lattice alone, as it is and renumbered; all one behind another; all renumbered; and some in turn.
+fn packed_lattices() -> Records {
+    let both = PACKED.map(|frequency| [(frequency, false), (frequency, true)]);
+    let of = |is_renumbered| PACKED.map(|frequency| (frequency, is_renumbered));
+    let mut records: Records = both
+        .concat()
+        .iter()
+        .map(|lattice| packed_together(&[*lattice], [0; 2]))
+        .collect();
+    records.push(packed_together(&of(false), [5, 4]));
+    records.push(packed_together(&of(true), [0, 1]));
+    records.push(packed_together(&both[..4].concat(), [3, 0]));
+    records
 }
 
 /// Lattice and grid, then directions: the answers of both locators. No weight is NaN, as then the

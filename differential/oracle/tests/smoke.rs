@@ -95,6 +95,21 @@ fn grid_of_one_vertex() {
     assert_eq!((0..24).filter(occupied).collect::<Vec<_>>(), [3, 11, 19]);
 }
 
+/// Vertex count, side, and the offsets of cell starts, cell ids, triangle starts, triples and positions.
+#[test]
+fn packed_one_behind_another() {
+    let grid = FaceGrid::new(&[[1.0, 1.0, 1.0]], &[vec![]]);
+    let (mut words, mut floats) = (Vec::new(), Vec::new());
+    assert_eq!(grid.pack(&mut words, &mut floats), [1, 2, 0, 25, 28, 30, 0]);
+    assert_eq!(
+        grid.pack(&mut words, &mut floats),
+        [1, 2, 30, 55, 58, 60, 3]
+    );
+    assert_eq!((words.len(), floats.len()), (60, 6));
+    assert_eq!(words[..30], words[30..]);
+    assert_eq!(floats, [1.0; 6]);
+}
+
 #[test]
 fn cube_faces() {
     assert_eq!(cube_project(&[0.0, 0.0, -2.0]), (5, -0.0, 0.0));

@@ -74,4 +74,8 @@ impl FaceGrid {
     pub fn find_nearest_vertex(&self, dir: &Vector3) -> usize {
         self.0.find_nearest_vertex(dir)
     }
+
+    pub fn pack(&self, words: &mut Vec<u32>, floats: &mut Vec<f32>) -> [u32; 7] {
+        self.0.pack(words, floats)
+    }
 }

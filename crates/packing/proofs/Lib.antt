@@ -1,0 +1,9 @@
+pub mod Behind
+pub mod Passed
+pub mod Outcome
+pub mod Parts
+pub mod Record
+pub mod Stays
+pub mod Contents
+pub mod Refusals
+pub mod Built

@@ -1,0 +1,7 @@
+-- `packing::written::widen_ids` meets its contract: at the end all ids are written. Assumes nothing.
+use Rattle.std.proofs.Common.{arith}
+use Rattle.sequences.proofs.Tabulate.{overwritten_all}
+use Rattle.packing.proofs.written.widen_ids.Goals as goal
+
+pub returns : goal.returns
+returns c = overwritten_all (omega arith) (omega arith) c.loop-i.invariant
