@@ -5,11 +5,11 @@
  * are compiled with the caller's code and call the archive's.
  *
  * Every function returns for every argument and keeps no state. All floating-point data is
- * binary64, but for packed positions, which are binary32. Each operation is rounded once, by the
- * clauses of IEEE 754-2019 that the function's comment names; a product and a sum are fused only
- * where a comment says so. Arithmetic on a NaN gives a NaN (6.2); sign and payload of a NaN result
- * are free. The caller's floating-point environment is the default one: rounding to nearest,
- * subnormals not flushed to zero.
+ * binary64, but for what koshirga_to_f32 returns and for packed positions, which are binary32. Each
+ * operation is rounded once, by the clauses of IEEE 754-2019 that the function's comment names; a
+ * product and a sum are fused only where a comment says so. Arithmetic on a NaN gives a NaN (6.2);
+ * sign and payload of a NaN result are free. The caller's floating-point environment is the default
+ * one: rounding to nearest, subnormals not flushed to zero.
  *
  * Slices. A slice is a pointer and the number of its elements. The pointer of an empty slice is not
  * null and is not read. Slices that are written overlap no other. The caller lends all memory. A
