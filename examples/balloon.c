@@ -42,6 +42,8 @@ static const char *const REFUSALS[] = {
     [KOSHIRGA_EMPTY_CELL] = "no vertex is in the direction's cell",
     [KOSHIRGA_NO_TRIANGLE] = "no triangle at the nearest vertex has a least weight",
     [KOSHIRGA_UNREACHED] = "the mesh is not connected",
+    [KOSHIRGA_VERTEX] = "a given vertex is not below the vertex count",
+    [KOSHIRGA_NO_PATH] = "no path leads to the target",
     [KOSHIRGA_STARTS_SPAN] = "the first start isn't 0, or the last isn't the number of entries, "
                              "ids or triples",
     [KOSHIRGA_STARTS_FALL] = "a start is below the one before it",

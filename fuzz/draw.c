@@ -465,10 +465,9 @@ mesh close_mesh(draw *d, vector *directions, int asked) {
     return m;
 }
 
-/* 65,536 vertices, or some more or fewer: a path one way or both ways, which is cut at times. */
-static mesh greatest_mesh(draw *d) {
+/* A path one way or both ways, which is cut at times. */
+static mesh path_mesh(draw *d, uint32_t count) {
     mesh m = room();
-    uint32_t count = VERTEX_MAX + 1 - below(d, 3);
     uint32_t cut = one_in(d, 2) ? below(d, count) : count;
     bool both_ways = one_in(d, 2);
     vector at = any_position(d);
@@ -484,6 +483,11 @@ static mesh greatest_mesh(draw *d) {
     }
     return m;
 }
+
+/* 65,536 vertices, or some more or fewer. */
+static mesh greatest_mesh(draw *d) { return path_mesh(d, VERTEX_MAX + 1 - below(d, 3)); }
+
+mesh long_path(draw *d) { return path_mesh(d, 200 + below(d, 200)); }
 
 /* Any slices at all, of the fuzzer's bytes as long as they last. */
 static mesh any_slices(draw *d) {
@@ -694,6 +698,29 @@ void damage_mesh(draw *d, mesh *m) {
                 (uint16_t)(one_in(d, 2) ? count : any_bits(d));
         break;
     default: damage_position(d, m); break;
+    }
+}
+
+uint32_t any_vertex(draw *d, size_t count) {
+    uint32_t id = count ? below(d, (uint32_t)count) : 0;
+    switch (below(d, 40)) {
+    case 0: return (uint32_t)count;
+    case 1: return (uint32_t)count + 1 + below(d, 4);
+    case 2: return UINT32_MAX - (one_in(d, 2) ? 0 : below(d, 3));
+    case 3: return (uint32_t)any_bits(d);
+    case 4: return id + 65536 * (1 + below(d, 65535));
+    default: return id;
+    }
+}
+
+size_t any_steps(draw *d, uint32_t farthest) {
+    switch (below(d, 8)) {
+    case 0: return SIZE_MAX - (one_in(d, 2) ? 0 : below(d, 3));
+    case 1: return ((size_t)1 << (32 + below(d, 32))) + below(d, 4);
+    case 2: return (size_t)any_bits(d);
+    case 3:
+    case 4: return (size_t)farthest + 1 - below(d, farthest > 0 ? 3 : 2);
+    default: return below(d, 4);
     }
 }
 

@@ -100,6 +100,9 @@ enum {
  * limit of the count, or any slices. */
 mesh any_mesh(draw *d);
 
+/* A path of some hundred vertices in the same rooms, one way or both ways, cut at times. */
+mesh long_path(draw *d);
+
 /* A mesh in the same rooms, and so many directions to ask for in it: three to five vertices, each a
  * neighbour of all others, at small numbers and zeros of both signs. Two of them are so close that
  * the square of their distance is about the least double above 0, or all stand on a line, one of
@@ -112,6 +115,14 @@ void arrange_lists(draw *d, mesh *m);
 
 /* Puts one thing of it wrong, or nothing at times. */
 void damage_mesh(draw *d, mesh *m);
+
+/* A vertex of so many: below the count as a rule; or the count, a little more, far above, the
+ * greatest, one whose low 16 bits alone are below the count. */
+uint32_t any_vertex(draw *d, size_t count);
+
+/* A number of steps: up to 3, about those to the farthest vertex, one whose low 32 bits alone are
+ * few, 2^64 - 1 or a little less, or any. */
+size_t any_steps(draw *d, uint32_t farthest);
 
 /* Makes starts fall at one place or at several; there are two at least, the last at `last`. */
 void damage_falls(draw *d, uint32_t *starts, size_t last);

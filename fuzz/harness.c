@@ -547,6 +547,298 @@ static void call_walk(draw *d, const mesh *drawn) {
     count_starts(of, &e, answer.refusal, answer.index);
 }
 
+/* ---- steps between vertices, and lists of vertices */
+
+/* Meshes of so many vertices have steps worked out a second time. */
+enum { FEW_VERTICES = 64 };
+
+/* The steps from a vertex to each of a few, UNREACHED where no path leads: every entry may shorten
+ * a way, until none does. */
+static void steps_to_all(const mesh *m, uint32_t from, uint32_t *steps) {
+    size_t count = m->positions_length / 3;
+    for (size_t v = 0; v < count; v++)
+        steps[v] = v == from ? 0 : UNREACHED;
+    for (bool shortened = true; shortened;) {
+        shortened = false;
+        for (size_t v = 0; v < count; v++)
+            for (size_t e = m->starts[v]; steps[v] != UNREACHED && e < m->starts[v + 1]; e++)
+                if (steps[v] + 1 < steps[m->entries[e]]) {
+                    steps[m->entries[e]] = steps[v] + 1;
+                    shortened = true;
+                }
+    }
+}
+
+static bool has_entry(const mesh *m, uint32_t vertex, uint32_t id) {
+    for (size_t e = m->starts[vertex]; e < m->starts[vertex + 1]; e++)
+        if (m->entries[e] == id)
+            return true;
+    return false;
+}
+
+/* Counts how a given vertex was refused. */
+static void count_vertex(entry of, uint32_t vertex, size_t count) {
+    if (vertex == count)
+        count_way(of, WAY_VERTEX_NEXT);
+    if (vertex == UINT32_MAX)
+        count_way(of, WAY_VERTEX_GREATEST);
+    if (vertex > UINT16_MAX && (uint16_t)vertex < count)
+        count_way(of, WAY_VERTEX_LOW_BITS);
+}
+
+/* Counts in which place of its list the target was met, from the walk's order. */
+static void count_met(entry of, const mesh *m, const uint32_t *queue, size_t reached, uint32_t to,
+                      uint32_t read) {
+    size_t before = 0, head = 0, all = 0;
+    while (before + (m->starts[queue[head] + 1] - m->starts[queue[head]]) < read) {
+        before += m->starts[queue[head] + 1] - m->starts[queue[head]];
+        head++;
+    }
+    size_t start = m->starts[queue[head]], length = m->starts[queue[head] + 1] - start, times = 0;
+    for (size_t i = 0; i < length; i++)
+        times += m->entries[start + i] == to;
+    for (size_t i = 0; i < reached; i++)
+        all += m->starts[queue[i] + 1] - m->starts[queue[i]];
+    hold(of, read <= all, "no more entries than the walk to its end");
+    if (length > 1 && read == before + 1)
+        count_way(of, WAY_MET_FIRST);
+    if (length > 1 && read == before + length)
+        count_way(of, WAY_MET_LAST);
+    if (times > 1)
+        count_way(of, WAY_MET_TWICE);
+    if (read == all)
+        count_way(of, WAY_READ_ALL);
+}
+
+/* What a search is asked beside its mesh, and its slices' lengths: the second is queue or list. */
+typedef struct search {
+    uint32_t from, to;
+    size_t order_length, second_length;
+} search;
+
+/* Counts what was refused behind the rows of the mesh, or found. */
+static void count_steps(entry of, const mesh *m, const search *s, koshirga_steps_answer answer) {
+    static uint32_t queue[VERTEX_MAX], steps[VERTEX_MAX], steps_back[VERTEX_MAX];
+    size_t count = m->positions_length / 3, scratch = search_scratch(m);
+    bool order_fits = s->order_length >= scratch, queue_fits = s->second_length >= scratch;
+    bool equal = s->from == s->to;
+    if (answer.refusal == 14) {
+        bool first = s->from >= count, second = s->to >= count;
+        if (first)
+            count_vertex(of, s->from, count);
+        if (second)
+            count_vertex(of, s->to, count);
+        if (equal)
+            count_way(of, WAY_EQUAL_AND_VERTEX);
+        if (first != second)
+            count_way(of, first ? WAY_FIRST_VERTEX : WAY_SECOND_VERTEX);
+        if (!order_fits || !queue_fits)
+            count_way(of, WAY_VERTEX_AND_ROOM);
+        return;
+    }
+    if (answer.refusal != 0 && answer.refusal != 8 && answer.refusal != 15)
+        return;
+    walk_from(m, s->from, queue, steps);
+    bool path = steps[s->to] != UNREACHED;
+    if (answer.refusal == 8) {
+        if (s->order_length + 1 == scratch && queue_fits)
+            count_way(of, WAY_ORDER_SHORT);
+        if (s->second_length + 1 == scratch && order_fits)
+            count_way(of, WAY_QUEUE_SHORT);
+        if (s->order_length >= count && s->second_length >= count)
+            count_way(of, WAY_SCRATCH_A_VERTEX);
+        if (equal)
+            count_way(of, WAY_EQUAL_AND_ROOM);
+        if (!path)
+            count_way(of, WAY_ROOM_AND_NO_PATH);
+        return;
+    }
+    hold(of, answer.refusal == 0 || !path, "15 where no path leads");
+    walk_from(m, s->to, queue, steps_back);
+    bool back = steps_back[s->from] != UNREACHED;
+    if (answer.refusal == 15) {
+        bool none = m->starts[s->from] == m->starts[s->from + 1];
+        count_way(of, none ? WAY_NO_PATH : WAY_NO_PATH_READ);
+        if (back)
+            count_way(of, WAY_NO_PATH_BACK);
+        return;
+    }
+    if (equal) {
+        count_way(of, WAY_EQUAL);
+        if (has_entry(m, s->from, s->from))
+            count_way(of, WAY_EQUAL_OWN);
+        return;
+    }
+    size_t reached = walk_from(m, s->from, queue, steps);
+    count_met(of, m, queue, reached, s->to, answer.entries_read);
+    if (answer.steps == 1)
+        count_way(of, WAY_ONE_STEP);
+    if (answer.steps > 100)
+        count_way(of, WAY_MANY_STEPS);
+    if (has_entry(m, s->from, s->from))
+        count_way(of, WAY_OWN_ENTRY);
+    if (!back)
+        count_way(of, WAY_ONE_WAY);
+    if (back && steps_back[s->from] != answer.steps)
+        count_way(of, WAY_OTHER_BACK);
+}
+
+/* Any vertex; or the one that the search begins at, the last of its list, or that of the walk. */
+static uint32_t any_target(draw *d, const mesh *m, uint32_t from) {
+    static uint32_t queue[VERTEX_MAX], steps[VERTEX_MAX];
+    size_t count = m->positions_length / 3;
+    uint32_t kind = below(d, 8);
+    bool walks = from < count && !mesh_row(m, false).refusal;
+    if (kind == 1 && walks && m->starts[from] < m->starts[from + 1])
+        return m->entries[m->starts[from + 1] - 1];
+    if (kind == 2 && walks)
+        return queue[walk_from(m, from, queue, steps) - 1];
+    return kind == 0 ? from : any_vertex(d, count);
+}
+
+static void call_steps_between(draw *d, const mesh *drawn) {
+    mesh e, m = lend_mesh(d, drawn, &e);
+    bool structs = by_structs(d);
+    entry of = structs ? ENTRY_steps_between_in : ENTRY_steps_between;
+    size_t vertices = m.positions_length / 3, scratch = search_scratch(&m);
+    search s = {any_vertex(d, vertices), 0, any_length(d, scratch), any_length(d, scratch)};
+    s.to = any_target(d, &e, s.from);
+    lent order = lend(3, any_garbage(d), s.order_length, sizeof(uint32_t), one_in(d, 2));
+    lent queue = lend(4, any_garbage(d), s.second_length, sizeof(uint32_t), one_in(d, 2));
+    koshirga_steps_answer expected =
+        expected_steps_between(&e, s.from, s.to, s.order_length, s.second_length);
+    koshirga_steps_answer answer =
+        structs ? koshirga_steps_between_in(mesh_struct(&m, one_in(d, 2)), s.from, s.to, order.at,
+                                            s.order_length, queue.at, s.second_length)
+                : koshirga_steps_between(m.positions, m.positions_length, m.starts, m.starts_length,
+                                         m.entries, m.entries_length, s.from, s.to, order.at,
+                                         s.order_length, queue.at, s.second_length);
+    uint32_t row = answer.refusal;
+    hold_row(of, expected.refusal, row);
+    hold_index(of, row, expected.index, answer.index);
+    hold(of, expected.steps == answer.steps, "the steps");
+    hold(of, expected.entries_read == answer.entries_read, "the count of entries");
+    hold_mesh(of);
+    hold(of, as_expected_from(3, row == 0 || row == 15 ? scratch : 0), "the order");
+    hold(of, as_expected_from(4, row == 0 || row == 15 ? scratch : 0), "the queue");
+    if (row == 0 && vertices <= FEW_VERTICES) {
+        uint32_t steps[FEW_VERTICES];
+        steps_to_all(&m, s.from, steps);
+        hold(of, answer.steps == steps[s.to], "no shorter way");
+    }
+    count(of, row);
+    count_starts(of, &e, row, answer.index);
+    count_steps(of, &e, &s, answer);
+}
+
+/* Counts what was refused behind the rows of the mesh, or filled. */
+static void count_within(entry of, const mesh *m, const search *s, size_t steps,
+                         koshirga_within_answer answer) {
+    static uint32_t queue[VERTEX_MAX], steps_to[VERTEX_MAX];
+    size_t count = m->positions_length / 3, scratch = search_scratch(m);
+    bool order_fits = s->order_length >= scratch, list_fits = s->second_length >= count;
+    if (answer.refusal == 14) {
+        count_vertex(of, s->from, count);
+        if (!order_fits || !list_fits)
+            count_way(of, WAY_VERTEX_AND_ROOM);
+    }
+    if (answer.refusal == 8) {
+        if (s->order_length + 1 == scratch && list_fits)
+            count_way(of, WAY_ORDER_SHORT);
+        if (s->second_length + 1 == count && order_fits)
+            count_way(of, WAY_LIST_SHORT);
+        if (s->order_length >= count && list_fits)
+            count_way(of, WAY_SCRATCH_A_VERTEX);
+    }
+    if (answer.refusal)
+        return;
+    size_t reached = walk_from(m, s->from, queue, steps_to);
+    uint32_t farthest = steps_to[queue[reached - 1]];
+    if (steps == 0)
+        count_way(of, WAY_NO_STEP);
+    if (steps > 0 && answer.vertices == 1)
+        count_way(of, WAY_ALONE);
+    if (farthest > 0 && steps == farthest - 1)
+        count_way(of, WAY_FARTHEST_NEARLY);
+    if (farthest > 0 && steps == farthest)
+        count_way(of, WAY_FARTHEST);
+    if (steps == (size_t)farthest + 1)
+        count_way(of, WAY_FARTHEST_PAST);
+    if (steps > UINT32_MAX && (uint32_t)steps < farthest)
+        count_way(of, WAY_STEPS_LOW_BITS);
+    if (steps == SIZE_MAX)
+        count_way(of, WAY_ALL_STEPS);
+    if (steps >= farthest && reached < count)
+        count_way(of, WAY_ISLAND);
+    if (answer.vertices < count)
+        count_way(of, WAY_ROOM_BEHIND);
+    if (s->second_length < scratch)
+        count_way(of, WAY_SHORT_LIST);
+}
+
+/* A list begins at the vertex and has no id twice. Of a few vertices it has those to which so many
+ * steps lead, the nearer ones first. */
+static void hold_list(entry of, const mesh *m, uint32_t vertex, size_t steps, const uint32_t *list,
+                      uint32_t length) {
+    static bool seen[VERTEX_MAX];
+    size_t count = m->positions_length / 3;
+    hold(of, length > 0 && length <= count && list[0] == vertex, "a list that begins there");
+    bool ids = true;
+    memset(seen, 0, count);
+    for (uint32_t i = 0; i < length; i++) {
+        ids &= list[i] < count && !seen[list[i]];
+        if (ids)
+            seen[list[i]] = true;
+    }
+    hold(of, ids, "ids below the count, none twice");
+    if (count > FEW_VERTICES)
+        return;
+    uint32_t steps_to[FEW_VERTICES];
+    bool those = true, nearer_first = true;
+    steps_to_all(m, vertex, steps_to);
+    for (size_t v = 0; v < count; v++)
+        those &= seen[v] == (steps_to[v] != UNREACHED && steps_to[v] <= steps);
+    for (uint32_t i = 1; i < length; i++)
+        nearer_first &= steps_to[list[i - 1]] <= steps_to[list[i]];
+    hold(of, those, "those to which so many steps lead");
+    hold(of, nearer_first, "the nearer ones first");
+}
+
+static void call_vertices_within(draw *d, const mesh *drawn) {
+    static uint32_t queue[VERTEX_MAX], steps_to[VERTEX_MAX];
+    mesh e, m = lend_mesh(d, drawn, &e);
+    bool structs = by_structs(d);
+    entry of = structs ? ENTRY_vertices_within_in : ENTRY_vertices_within;
+    size_t vertices = m.positions_length / 3, scratch = search_scratch(&m);
+    search s = {any_vertex(d, vertices), 0, any_length(d, scratch), any_length(d, vertices)};
+    uint32_t farthest = 0;
+    if (s.from < vertices && !mesh_row(&e, false).refusal)
+        farthest = steps_to[queue[walk_from(&e, s.from, queue, steps_to) - 1]];
+    size_t steps = any_steps(d, farthest);
+    lent order = lend(3, any_garbage(d), s.order_length, sizeof(uint32_t), one_in(d, 2));
+    lent list = lend(4, any_garbage(d), s.second_length, sizeof(uint32_t), one_in(d, 2));
+    koshirga_within_answer expected =
+        expected_vertices_within(&e, s.from, steps, s.order_length, list.expected, s.second_length);
+    koshirga_within_answer answer =
+        structs
+            ? koshirga_vertices_within_in(mesh_struct(&m, one_in(d, 2)), s.from, steps, order.at,
+                                          s.order_length, list.at, s.second_length)
+            : koshirga_vertices_within(m.positions, m.positions_length, m.starts, m.starts_length,
+                                       m.entries, m.entries_length, s.from, steps, order.at,
+                                       s.order_length, list.at, s.second_length);
+    hold_row(of, expected.refusal, answer.refusal);
+    hold_index(of, answer.refusal, expected.index, answer.index);
+    hold(of, expected.vertices == answer.vertices, "the count of vertices");
+    hold_mesh(of);
+    hold(of, as_expected_from(3, answer.refusal ? 0 : scratch), "the order");
+    hold(of, as_expected(4), "the list");
+    if (!answer.refusal)
+        hold_list(of, &m, s.from, steps, list.at, answer.vertices);
+    count(of, answer.refusal);
+    count_starts(of, &e, answer.refusal, answer.index);
+    count_within(of, &e, &s, steps, answer);
+}
+
 static size_t any_entries_per_vertex(draw *d, size_t vertices) {
     switch (below(d, 16)) {
     case 0: return 0;
@@ -1782,6 +2074,8 @@ static void meshes(draw *d) {
     if (one_in(d, 16))
         damage_mesh(d, &m);
     call_walk(d, &m);
+    call_steps_between(d, &m);
+    call_vertices_within(d, &m);
     call_mark_ascending(d, &m);
     call_renumber(d, &m);
     if (one_in(d, 2))
@@ -1809,6 +2103,17 @@ static void meshes(draw *d) {
         if (q.positions_length == 0 || q.side != q.built_side || q.grid.cell_starts_length == 0 ||
             q.grid.triangle_starts_length == 0)
             return; /* nothing is left to be damaged */
+    }
+}
+
+/* Several searches in one mesh. */
+static void searches(draw *d) {
+    mesh m = one_in(d, 12) ? long_path(d) : any_mesh(d);
+    if (one_in(d, 8))
+        damage_mesh(d, &m);
+    for (int i = 0; i < 4; i++) {
+        call_steps_between(d, &m);
+        call_vertices_within(d, &m);
     }
 }
 
@@ -1845,7 +2150,7 @@ int LLVMFuzzerInitialize(int *argc, char ***argv) {
 
 int LLVMFuzzerTestOneInput(const uint8_t *bytes, size_t length) {
     draw d = draw_from(bytes, length);
-    switch (below(&d, 23)) {
+    switch (below(&d, 24)) {
     case 0: repeat(arithmetic, 3, &d); break;
     case 1: repeat(vectors, 4, &d); break;
     case 2: repeat(weights, 6, &d); break;
@@ -1864,6 +2169,7 @@ int LLVMFuzzerTestOneInput(const uint8_t *bytes, size_t length) {
         break;
     case 13:
     case 14: repeat(packings, 2, &d); break;
+    case 15: searches(&d); break;
     default: meshes(&d); break;
     }
     tally_input();

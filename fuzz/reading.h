@@ -118,15 +118,37 @@
  * 107. triangle starts are packed before cell ids
  * 108. offsets of cell ids and triangle starts are exchanged in a record
  * 109. the offset of packed positions counts vertices
- * 110. packed coordinates are rounded toward zero */
+ * 110. packed coordinates are rounded toward zero
+ * 111. the list that has the target is counted whole
+ * 112. the entry that is the target is not counted
+ * 113. 13 in place of 15
+ * 114. row 8 before row 14
+ * 115. a list of vertices needs as many places as scratch
+ * 116. scratch of a search needs a place a vertex
+ * 117. row 15 before row 8
+ * 118. row 14 tests the first vertex alone
+ * 119. equal ends are answered before row 8
+ * 120. equal ends are searched: they are met at an entry, or are 15
+ * 121. a vertex is taken modulo 65,536
+ * 122. equal ends are answered before row 14
+ * 123. a vertex in its own list is not counted
+ * 124. repeats in a list are counted once
+ * 125. the steps are those of the vertex whose list has the target
+ * 126. a number of steps is taken modulo 2^32
+ * 127. a list of vertices goes a step too far
+ * 128. a list of vertices is filled to the end of the walk
+ * 129. a search gives no index
+ * 130. a search tests row 5
+ * 131. a list of vertices ascends
+ * 132. 15 carries the count of entries */
 #ifndef MISREAD
 #define MISREAD 0
 #endif
-enum { MISREADINGS = 110 };
+enum { MISREADINGS = 132 };
 
 enum { FREQUENCY_MAX = 80, VERTEX_MAX = 65536, LIST_MAX = 32, MARGIN_MAX = 3, ROWS = 20 };
 
-/* Whether a row has this number, up to ROWS: 14 to 16 are nobody's. */
+/* Whether a row has this number, up to ROWS: 16 is nobody's. */
 bool is_row(uint32_t number);
 
 /* A place that the walk didn't number. */
@@ -234,6 +256,19 @@ koshirga_verdict_answer mesh_row(const mesh *m, bool with_row_5);
 
 koshirga_walk_answer expected_walk(const mesh *m, uint32_t *order, size_t order_length,
                                    uint32_t *queue, size_t queue_length);
+
+/* The walk from a vertex to its end, in a mesh that passes its rows: the ids in its order, and for
+ * each vertex the steps that lead there, UNREACHED for others. Gives how many are reached. */
+size_t walk_from(const mesh *m, uint32_t from, uint32_t *queue, uint32_t *steps);
+
+/* The places that each scratch slice of a search needs. */
+size_t search_scratch(const mesh *m);
+
+koshirga_steps_answer expected_steps_between(const mesh *m, uint32_t from, uint32_t to,
+                                             size_t order_length, size_t queue_length);
+koshirga_within_answer expected_vertices_within(const mesh *m, uint32_t vertex, size_t steps,
+                                                size_t order_length, uint32_t *list,
+                                                size_t list_length);
 
 /* The places that each scratch slice of a renumbering needs; the mesh passes its rows. */
 size_t renumber_scratch(const mesh *m, size_t values_length);

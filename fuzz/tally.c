@@ -16,7 +16,7 @@ static const char *const NAMES[ENTRIES] = {ENTRY_POINTS(NAME)};
 /* The calls whose ways are counted, as columns. Which of them can meet a way: a bit each, the first
  * the lowest. */
 enum {
-    COLUMNS = 12,
+    COLUMNS = 14,
     MINIMUM = 1,
     CONVERSION = 2,
     WEIGHTS = 4,
@@ -28,7 +28,10 @@ enum {
     LOCATION = 512,
     ROUNDING = 1024,
     PACKING = 2048,
-    WHOLE = WALK | RENUMBERING | MARKING | BUILDER,
+    STEPPING = 4096,
+    LISTING = 8192,
+    SEARCHES = STEPPING | LISTING,
+    WHOLE = WALK | RENUMBERING | MARKING | BUILDER | SEARCHES,
     QUERIES = 256 | LOCATION,
     RECORDS = QUERIES | PACKING,
     PAIRS = BUILDER | RECORDS,
@@ -38,10 +41,11 @@ enum {
     LEASTS = WEIGHTS | LOCATION,
     MINIMA = DRAWN | LOCATION
 };
-static const entry WITH_WAYS[COLUMNS] = {ENTRY_minimum_number, ENTRY_to_i64,     ENTRY_least_weight,
-                                         ENTRY_lattice,        ENTRY_walk,       ENTRY_renumber,
-                                         ENTRY_mark_ascending, ENTRY_build_grid, ENTRY_grid_nearest,
-                                         ENTRY_grid_locate,    ENTRY_to_f32,     ENTRY_pack};
+static const entry WITH_WAYS[COLUMNS] = {
+    ENTRY_minimum_number, ENTRY_to_i64,         ENTRY_least_weight,   ENTRY_lattice,
+    ENTRY_walk,           ENTRY_renumber,       ENTRY_mark_ascending, ENTRY_build_grid,
+    ENTRY_grid_nearest,   ENTRY_grid_locate,    ENTRY_to_f32,         ENTRY_pack,
+    ENTRY_steps_between,  ENTRY_vertices_within};
 #define WAY(name, calls, text) {calls, text},
 static const struct {
     unsigned calls;
@@ -201,13 +205,13 @@ static void print_ways(const char *title, unsigned of, int first, int end) {
     printf("\n%-42s", title);
     for (int column = 0; column < COLUMNS; column++)
         if (of >> column & 1)
-            printf(" %14s", NAMES[WITH_WAYS[column]]);
+            printf(" %15s", NAMES[WITH_WAYS[column]]);
     printf("\n");
     for (int w = first; w < end; w++) {
         printf("%-42s", WAYS_OF[w].text);
         for (int column = 0; column < COLUMNS; column++)
             if (of >> column & 1) {
-                printf("     ");
+                printf("      ");
                 print_count(ways[WITH_WAYS[column]][w]);
             }
         printf("\n");
@@ -222,7 +226,8 @@ static void print_tables(double seconds) {
     print_ways("the mark (0: accepted), and lists", MARKS, WAY_MARKS, WAY_MINIMA);
     print_ways("minima", MINIMA, WAY_MINIMA, WAY_ROUNDINGS);
     print_ways("rounded to binary32", ROUNDING, WAY_ROUNDINGS, WAY_PACKINGS);
-    print_ways("packed (0: accepted)", PACKING, WAY_PACKINGS, WAY_COUNT);
+    print_ways("packed (0: accepted)", PACKING, WAY_PACKINGS, WAY_SEARCHES);
+    print_ways("steps and lists (0: accepted)", SEARCHES, WAY_SEARCHES, WAY_COUNT);
     int frequencies = 0;
     for (int n = 1; n <= FREQUENCY_MAX; n++)
         frequencies += built[n];

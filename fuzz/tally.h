@@ -12,9 +12,10 @@
     X(total_cmp) X(rank) X(minimum_number) X(floor) X(ceil) X(to_i64) X(to_f32) X(mul_add)        \
     X(sqrt) X(sqrt_by_digits) X(dot) X(cross) X(minus) X(plus) X(scale) X(divide)                 \
     X(norm_squared) X(norm) X(normalize) X(direction) X(projected_barycentric) X(least_weight)    \
-    X(walk) X(renumber) X(mark_ascending) X(choose_face) X(analytic_locate) X(analytic_nearest)   \
-    X(lattice) X(build_grid) X(grid_nearest) X(grid_locate) X(pack) X(mark_ascending_of)          \
-    X(walk_mesh) X(build_grid_of) X(nearest_in) X(locate_in) X(pack_grid)
+    X(walk) X(steps_between) X(vertices_within) X(renumber) X(mark_ascending) X(choose_face)      \
+    X(analytic_locate) X(analytic_nearest) X(lattice) X(build_grid) X(grid_nearest)               \
+    X(grid_locate) X(pack) X(mark_ascending_of) X(walk_mesh) X(steps_between_in)                  \
+    X(vertices_within_in) X(build_grid_of) X(nearest_in) X(locate_in) X(pack_grid)
 
 #define ENTRY(name) ENTRY_##name,
 typedef enum entry { ENTRY_POINTS(ENTRY) ENTRIES } entry;
@@ -243,6 +244,48 @@ typedef enum entry { ENTRY_POINTS(ENTRY) ENTRIES } entry;
     X(FLOATS_ABOVE, PACKING, "8: the positions at 4294967296")                                     \
     X(ALL_ABOVE, PACKING, "8: the first list at 4294967296")
 
+/* The same for steps between two vertices and for lists of vertices: how these calls are refused
+ * behind the rows of the mesh, and what is found. A walk is the one from the first vertex to its
+ * end. */
+#define SEARCH_WAYS(X)                                                                             \
+    X(VERTEX_NEXT, SEARCHES, "14: the vertex count")                                               \
+    X(VERTEX_GREATEST, SEARCHES, "14: 4294967295")                                                 \
+    X(VERTEX_LOW_BITS, SEARCHES, "14: low 16 bits below the count")                                \
+    X(FIRST_VERTEX, STEPPING, "14: the first vertex alone")                                        \
+    X(SECOND_VERTEX, STEPPING, "14: the second vertex alone")                                      \
+    X(EQUAL_AND_VERTEX, STEPPING, "14: both ends are one vertex")                                  \
+    X(VERTEX_AND_ROOM, SEARCHES, "14: and too little room")                                        \
+    X(ORDER_SHORT, SEARCHES, "8: the order alone, one place too short")                            \
+    X(QUEUE_SHORT, STEPPING, "8: the queue alone, one place too short")                            \
+    X(LIST_SHORT, LISTING, "8: the list alone, one place too short")                               \
+    X(SCRATCH_A_VERTEX, SEARCHES, "8: scratch with a place a vertex")                              \
+    X(EQUAL_AND_ROOM, STEPPING, "8: both ends are one vertex")                                     \
+    X(ROOM_AND_NO_PATH, STEPPING, "8: and no path leads to the target")                            \
+    X(NO_PATH, STEPPING, "15: no entry is read")                                                   \
+    X(NO_PATH_READ, STEPPING, "15: entries are read")                                              \
+    X(NO_PATH_BACK, STEPPING, "15: a path leads back")                                             \
+    X(EQUAL, STEPPING, "0: both ends are one vertex")                                              \
+    X(EQUAL_OWN, STEPPING, "0: both ends are one, in its own list")                                \
+    X(ONE_STEP, STEPPING, "0: one step")                                                           \
+    X(MANY_STEPS, STEPPING, "0: over 100 steps")                                                   \
+    X(OWN_ENTRY, STEPPING, "0: the first vertex in its own list")                                  \
+    X(MET_FIRST, STEPPING, "0: met in the first place of several")                                 \
+    X(MET_LAST, STEPPING, "0: met in the last place of several")                                   \
+    X(MET_TWICE, STEPPING, "0: the target twice in one list")                                      \
+    X(READ_ALL, STEPPING, "0: met at the walk's last entry")                                       \
+    X(ONE_WAY, STEPPING, "0: no path leads back")                                                  \
+    X(OTHER_BACK, STEPPING, "0: another number of steps back")                                     \
+    X(NO_STEP, LISTING, "0: 0 steps")                                                              \
+    X(ALONE, LISTING, "0: steps, but the vertex alone")                                            \
+    X(FARTHEST_NEARLY, LISTING, "0: a step fewer than to the farthest")                            \
+    X(FARTHEST, LISTING, "0: as many as to the farthest")                                          \
+    X(FARTHEST_PAST, LISTING, "0: a step more than to the farthest")                               \
+    X(STEPS_LOW_BITS, LISTING, "0: low 32 bits would give fewer")                                  \
+    X(ALL_STEPS, LISTING, "0: 2^64 - 1 steps")                                                     \
+    X(ISLAND, LISTING, "0: not all of the mesh is reached")                                        \
+    X(ROOM_BEHIND, LISTING, "0: places below the count are left")                                  \
+    X(SHORT_LIST, LISTING, "0: a list that is shorter than scratch")
+
 #define WAYS(X)                                                                                    \
     START_WAYS(X)                                                                                  \
     PAIR_WAYS(X)                                                                                   \
@@ -250,21 +293,23 @@ typedef enum entry { ENTRY_POINTS(ENTRY) ENTRIES } entry;
     MARK_WAYS(X)                                                                                   \
     MINIMUM_WAYS(X)                                                                                \
     ROUNDING_WAYS(X)                                                                               \
-    PACKING_WAYS(X)
+    PACKING_WAYS(X)                                                                                \
+    SEARCH_WAYS(X)
 
 #define WAY(name, calls, text) WAY_##name,
 typedef enum way { WAYS(WAY) WAY_COUNT } way;
 #undef WAY
 
-/* The first way of the pairs, of the conversions, of the marks, of the minima, of the roundings and
- * of the packings. */
+/* The first way of the pairs, of the conversions, of the marks, of the minima, of the roundings, of
+ * the packings and of the searches. */
 enum {
     WAY_PAIRS = WAY_FACTOR_NAN,
     WAY_CONVERSIONS = WAY_KEPT,
     WAY_MARKS = WAY_MARK_SET,
     WAY_MINIMA = WAY_UPPER_ZERO_FIRST,
     WAY_ROUNDINGS = WAY_EXACT,
-    WAY_PACKINGS = WAY_NONE_TAKEN
+    WAY_PACKINGS = WAY_NONE_TAKEN,
+    WAY_SEARCHES = WAY_VERTEX_NEXT
 };
 
 /* The call was answered by this row; 0: accepted. */

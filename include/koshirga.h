@@ -1,8 +1,9 @@
 /* Koshirga: the calls of the archive libc_api.a, which `tools/archive` makes. A whole program
  * that uses them is examples/balloon.c, examples/exporter.c has a mesh from outside, refused and
- * then mended, and examples/buffers.c packs two balloons for the graphics card; docs/DATASHEET.md
- * says what every call does, step by step. Six calls at the end take mesh and grid as structs; they
- * are compiled with the caller's code and call the archive's.
+ * then mended, examples/buffers.c packs two balloons for the graphics card, and examples/spread.c
+ * spreads a correction over the points about one; docs/DATASHEET.md says what every call does, step
+ * by step. Eight calls at the end take mesh and grid as structs; they are compiled with the
+ * caller's code and call the archive's.
  *
  * Every function returns for every argument and keeps no state. All floating-point data is
  * binary64, but for what koshirga_to_f32 returns and for packed positions, which are binary32. Each
@@ -58,7 +59,7 @@
 #include <stdint.h>
 
 #define KOSHIRGA_VERSION_MAJOR 0
-#define KOSHIRGA_VERSION_MINOR 8
+#define KOSHIRGA_VERSION_MINOR 9
 #define KOSHIRGA_VERSION_PATCH 0
 
 #ifdef __cplusplus
@@ -71,8 +72,9 @@ extern "C" {
  * `refusal`. A call is refused by the first of its rows that holds; its comment names them by
  * number, in their order, as docs/DATASHEET.md lays it down for all calls in one table. All other
  * fields are then 0, but for the index of KOSHIRGA_STARTS_FALL, and neither a slice nor a mark is
- * changed, but for the two slices of KOSHIRGA_UNREACHED. Later versions may add rows: take every
- * number but KOSHIRGA_ACCEPTED for a refusal, also one that isn't here.
+ * changed, but for the two slices of KOSHIRGA_UNREACHED and the scratch of KOSHIRGA_NO_PATH. Later
+ * versions may add rows: take every number but KOSHIRGA_ACCEPTED for a refusal, also one that isn't
+ * here.
  *
  * `index`, a field of some answers, belongs to KOSHIRGA_STARTS_FALL alone: the place in the start
  * list, counted from 0, of the first start that is below the one before it, so at least 1. The
@@ -119,6 +121,10 @@ enum koshirga_refusal {
     KOSHIRGA_NO_TRIANGLE = 12,
     /* The walk doesn't reach a vertex: the mesh is in several parts. */
     KOSHIRGA_UNREACHED = 13,
+    /* A given vertex is not below the vertex count. */
+    KOSHIRGA_VERTEX = 14,
+    /* No path leads to the target. */
+    KOSHIRGA_NO_PATH = 15,
     /* The starts don't span the entries: the first isn't 0, or the last isn't entries_length. In a
      * packing likewise cell_starts with cell_ids_length, and triangle_starts, three times whose
      * last has to be triples_length. */
@@ -265,12 +271,22 @@ koshirga_weights koshirga_projected_barycentric(koshirga_vector3 p, koshirga_vec
  * are. */
 double koshirga_least_weight(koshirga_weights weights);
 
-/* ---- walk, renumbering and mark */
+/* ---- walk, steps, renumbering and mark */
 
 typedef struct koshirga_walk_answer {
     uint32_t refusal, entries_read;
     size_t index; /* that of row 18 */
 } koshirga_walk_answer;
+
+typedef struct koshirga_steps_answer {
+    uint32_t refusal, steps, entries_read;
+    size_t index; /* that of row 18 */
+} koshirga_steps_answer;
+
+typedef struct koshirga_within_answer {
+    uint32_t refusal, vertices;
+    size_t index; /* that of row 18 */
+} koshirga_within_answer;
 
 typedef struct koshirga_verdict_answer {
     uint32_t refusal;
@@ -286,6 +302,35 @@ koshirga_walk_answer koshirga_walk(const double *positions, size_t positions_len
                                    const uint16_t *entries, size_t entries_length,
                                    uint32_t *order, size_t order_length,
                                    uint32_t *queue, size_t queue_length);
+
+/* How many steps lead from one vertex to another, at least. A step goes from a vertex to an id of
+ * its neighbour list. Lists need not be mutual: the way back may take another number of steps, or
+ * there may be none. A walk breadth first from the first vertex, neighbours in the order of their
+ * list, stops at the first entry that is the target; entries_read counts the entries up to and with
+ * that one, repeats and a vertex in its own list too, and is at most the count of the walk to its
+ * end. Where both are one vertex, steps and entries_read are 0, and row 15 is not met.
+ *
+ * A vertex may be any number: who passes -1 passes 4294967295, which is row 14. order and queue are
+ * scratch, each at least as long as the longest of positions, starts and entries. Rows 2, 3, 17,
+ * 18, 3, 4, 14, 8, 15; what 15 leaves in scratch is free, the other rows change nothing. */
+koshirga_steps_answer koshirga_steps_between(const double *positions, size_t positions_length,
+                                             const uint32_t *starts, size_t starts_length,
+                                             const uint16_t *entries, size_t entries_length,
+                                             uint32_t from, uint32_t to,
+                                             uint32_t *order, size_t order_length,
+                                             uint32_t *queue, size_t queue_length);
+
+/* Fills list with the vertices at most so many steps away from a vertex, itself the first, in the
+ * order of a walk that begins there. vertices says how many they are, and places behind them are
+ * untouched. steps may be any number: 0 gives the vertex alone, and one from the vertex count on
+ * gives all that the walk reaches. order is scratch as above. list needs a place a vertex, also
+ * where fewer are filled. Rows 2, 3, 17, 18, 3, 4, 14, 8 change nothing. */
+koshirga_within_answer koshirga_vertices_within(const double *positions, size_t positions_length,
+                                                const uint32_t *starts, size_t starts_length,
+                                                const uint16_t *entries, size_t entries_length,
+                                                uint32_t vertex, size_t steps,
+                                                uint32_t *order, size_t order_length,
+                                                uint32_t *list, size_t list_length);
 
 /* Renumbers mesh and data by a permutation that holds the new id at each old one, such as a walk's
  * order, and sets the mark: a vertex's neighbours get their new ids, and each list is then sorted,
@@ -561,6 +606,28 @@ static inline koshirga_walk_answer koshirga_walk_mesh(koshirga_mesh mesh, uint32
     return koshirga_walk(mesh.positions, mesh.positions_length, mesh.starts, mesh.starts_length,
                          mesh.entries, mesh.entries_length, order, order_length, queue,
                          queue_length);
+}
+
+/* koshirga_steps_between in a mesh. */
+static inline koshirga_steps_answer koshirga_steps_between_in(koshirga_mesh mesh, uint32_t from,
+                                                              uint32_t to, uint32_t *order,
+                                                              size_t order_length, uint32_t *queue,
+                                                              size_t queue_length) {
+    return koshirga_steps_between(mesh.positions, mesh.positions_length, mesh.starts,
+                                  mesh.starts_length, mesh.entries, mesh.entries_length, from, to,
+                                  order, order_length, queue, queue_length);
+}
+
+/* koshirga_vertices_within in a mesh. */
+static inline koshirga_within_answer koshirga_vertices_within_in(koshirga_mesh mesh,
+                                                                 uint32_t vertex, size_t steps,
+                                                                 uint32_t *order,
+                                                                 size_t order_length,
+                                                                 uint32_t *list,
+                                                                 size_t list_length) {
+    return koshirga_vertices_within(mesh.positions, mesh.positions_length, mesh.starts,
+                                    mesh.starts_length, mesh.entries, mesh.entries_length, vertex,
+                                    steps, order, order_length, list, list_length);
 }
 
 /* koshirga_build_grid of a mesh. Where it is accepted, *grid is the grid that was built, ready for

@@ -50,6 +50,21 @@ pub struct WalkAnswer {
 }
 
 #[repr(C)]
+pub struct StepsAnswer {
+    pub refusal: u32,
+    pub steps: u32,
+    pub entries_read: u32,
+    pub index: usize,
+}
+
+#[repr(C)]
+pub struct WithinAnswer {
+    pub refusal: u32,
+    pub vertices: u32,
+    pub index: usize,
+}
+
+#[repr(C)]
 pub struct VerdictAnswer {
     pub refusal: u32,
     pub index: usize,
@@ -123,6 +138,34 @@ unsafe extern "C" {
         queue: *mut u32,
         queue_length: usize,
     ) -> WalkAnswer;
+    fn koshirga_steps_between(
+        positions: *const f64,
+        positions_length: usize,
+        starts: *const u32,
+        starts_length: usize,
+        entries: *const u16,
+        entries_length: usize,
+        from: u32,
+        to: u32,
+        order: *mut u32,
+        order_length: usize,
+        queue: *mut u32,
+        queue_length: usize,
+    ) -> StepsAnswer;
+    fn koshirga_vertices_within(
+        positions: *const f64,
+        positions_length: usize,
+        starts: *const u32,
+        starts_length: usize,
+        entries: *const u16,
+        entries_length: usize,
+        vertex: u32,
+        steps: usize,
+        order: *mut u32,
+        order_length: usize,
+        list: *mut u32,
+        list_length: usize,
+    ) -> WithinAnswer;
     fn koshirga_renumber(
         positions: *mut f64,
         positions_length: usize,
@@ -282,6 +325,68 @@ pub fn walk(mesh: Mesh, order: &mut [u32], queue: &mut [u32]) -> WalkAnswer {
             order.len(),
             queue.as_mut_ptr(),
             queue.len(),
+        )
+    }
+}
+
+pub fn steps_between(
+    mesh: Mesh,
+    from: u32,
+    to: u32,
+    order: &mut [u32],
+    queue: &mut [u32],
+) -> StepsAnswer {
+    let Mesh {
+        positions,
+        starts,
+        entries,
+    } = mesh;
+    // Safe: pointers and lengths are of slices, and those written are lent alone.
+    unsafe {
+        koshirga_steps_between(
+            positions.as_ptr(),
+            positions.len(),
+            starts.as_ptr(),
+            starts.len(),
+            entries.as_ptr(),
+            entries.len(),
+            from,
+            to,
+            order.as_mut_ptr(),
+            order.len(),
+            queue.as_mut_ptr(),
+            queue.len(),
+        )
+    }
+}
+
+pub fn vertices_within(
+    mesh: Mesh,
+    vertex: u32,
+    steps: usize,
+    order: &mut [u32],
+    list: &mut [u32],
+) -> WithinAnswer {
+    let Mesh {
+        positions,
+        starts,
+        entries,
+    } = mesh;
+    // Safe: pointers and lengths are of slices, and those written are lent alone.
+    unsafe {
+        koshirga_vertices_within(
+            positions.as_ptr(),
+            positions.len(),
+            starts.as_ptr(),
+            starts.len(),
+            entries.as_ptr(),
+            entries.len(),
+            vertex,
+            steps,
+            order.as_mut_ptr(),
+            order.len(),
+            list.as_mut_ptr(),
+            list.len(),
         )
     }
 }
@@ -626,6 +731,8 @@ pub mod tests {
         }
         same!("conversion", ConversionAnswer, whole, how);
         same!("walk", WalkAnswer, refusal, entries_read, index);
+        same!("steps", StepsAnswer, refusal, steps, entries_read, index);
+        same!("within", WithinAnswer, refusal, vertices, index);
         same!("verdict", VerdictAnswer, refusal, index);
         same!("build", BuildAnswer, refusal, side, index, held);
         same!("nearest", NearestAnswer, id, candidates, distance, index);

@@ -44,8 +44,8 @@ pub use buffers::{GpuBuffers, LevelRecord, Taken};
 pub use grid::{build_grid, Built, FaceGrid, Grid, GridMut, Located, Nearest, Settings};
 pub use lattice::{lattice_geometry, LatticeGeometry};
 pub use mesh::{
-    apply_vertex_permutation, bfs_vertex_permutation, mark_ascending, Mesh, MeshData, MeshMut,
-    Scratch, Walk,
+    apply_vertex_permutation, bfs_vertex_permutation, mark_ascending, steps_between,
+    vertices_within, Mesh, MeshData, MeshMut, Scratch, Steps, Walk,
 };
 pub use refusal::Refusal;
 pub use vector::Vector3;

@@ -1,4 +1,5 @@
-//! The walk over a mesh, its renumbering, and the mark that its lists ascend.
+//! The walk over a mesh, steps between its vertices, its renumbering, and the mark that its lists
+//! ascend.
 
 use crate::{ffi, Refusal, Vector3};
 
@@ -60,6 +61,64 @@ pub fn bfs_vertex_permutation(
     let answer = ffi::walk(mesh, order, queue);
     Refusal::check_at(answer.refusal, answer.index)?;
     Ok(answer.entries_read)
+}
+
+/// The steps from one vertex to another, and the entries read until it was met.
+#[derive(Clone, Copy, Debug, PartialEq, Eq)]
+pub struct Steps {
+    /// How many steps lead there, at least.
+    pub steps: u32,
+    /// The count of entries read, with the one that is the target.
+    pub entries_read: u32,
+}
+
+/// How many steps lead from one vertex to another, at least. A step goes from a vertex to an id of
+/// its neighbour list. Lists need not be mutual: the way back may take another number of steps, or
+/// there may be none.
+///
+/// A walk breadth first from the first vertex, lists in stored order, stops at the first entry that
+/// is the target. The count of entries read is at most that of the walk to its end; repeats and a
+/// vertex in its own list count. Where both are one vertex, both numbers are 0, and row 15 is not
+/// met.
+///
+/// Scratch is `order` and `queue`, each at least as long as the longest of positions, starts and
+/// entries. Rows 2, 3, 17, 18, 3, 4, 14, 8 and 15; what 15 leaves in scratch is free, the other rows
+/// change nothing.
+///
+/// [`MeshData::steps_between`](crate::MeshData::steps_between) brings the scratch itself.
+pub fn steps_between(
+    mesh: Mesh,
+    from: u32,
+    to: u32,
+    order: &mut [u32],
+    queue: &mut [u32],
+) -> Result<Steps, Refusal> {
+    let answer = ffi::steps_between(mesh, from, to, order, queue);
+    Refusal::check_at(answer.refusal, answer.index)?;
+    Ok(Steps {
+        steps: answer.steps,
+        entries_read: answer.entries_read,
+    })
+}
+
+/// Fills `list` with the vertices at most so many steps away from a vertex, itself the first, in the
+/// order of a walk that begins there. Gives how many they are; places behind them are untouched. 0
+/// steps give the vertex alone, and any number from the vertex count on all that the walk reaches.
+///
+/// Scratch is `order`, at least as long as the longest of positions, starts and entries; `list` has
+/// a place a vertex, also where fewer are filled. Rows 2, 3, 17, 18, 3, 4, 14 and 8 change nothing.
+///
+/// [`MeshData::vertices_within`](crate::MeshData::vertices_within) brings both slices itself.
+pub fn vertices_within(
+    mesh: Mesh,
+    vertex: u32,
+    steps: usize,
+    order: &mut [u32],
+    list: &mut [u32],
+) -> Result<u32, Refusal> {
+    let answer = ffi::vertices_within(mesh, vertex, steps, order, list);
+    Refusal::check_at(answer.refusal, answer.index)?;
+    Ok(answer.vertices)
 }
 
 /// Renumbers mesh and data by a permutation that holds the new id at each old one, and sets the
@@ -174,6 +233,57 @@ impl MeshData {
             queue,
             entries_read,
         })
+    }
+
+    /// How long scratch of the calls for steps has to be.
+    fn longest(&self) -> usize {
+        let Mesh {
+            positions,
+            starts,
+            entries,
+        } = self.as_mesh();
+        positions.len().max(starts.len()).max(entries.len())
+    }
+
+    /// How many steps lead from one vertex to another, and how many entries are read until it is
+    /// met: see [`steps_between`].
+    ///
+    /// ```
+    /// use koshirga::LatticeGeometry;
+    ///
+    /// let mesh = LatticeGeometry::new(1)?.mesh;
+    /// let found = mesh.steps_between(0, 9)?;
+    /// assert_eq!((found.steps, found.entries_read), (3, 34));
+    ///
+    /// // The walk to its end reads all 60 entries.
+    /// assert_eq!(mesh.bfs_vertex_permutation()?.entries_read, 60);
+    ///
+    /// let refusal = mesh.steps_between(0, 12).unwrap_err();
+    /// assert_eq!(refusal.number(), 14);
+    /// # Ok::<(), koshirga::Refusal>(())
+    /// ```
+    pub fn steps_between(&self, from: u32, to: u32) -> Result<Steps, Refusal> {
+        let (mut order, mut queue) = (vec![0; self.longest()], vec![0; self.longest()]);
+        steps_between(self.as_mesh(), from, to, &mut order, &mut queue)
+    }
+
+    /// The vertices at most so many steps away from a vertex, itself the first, in the order of a
+    /// walk that begins there: see [`vertices_within`].
+    ///
+    /// ```
+    /// use koshirga::LatticeGeometry;
+    ///
+    /// let mesh = LatticeGeometry::new(1)?.mesh;
+    /// assert_eq!(mesh.vertices_within(4, 0)?, [4]);
+    /// assert_eq!(mesh.vertices_within(4, 1)?, [4, 2, 3, 5, 8, 9]);
+    /// assert_eq!(mesh.vertices_within(4, usize::MAX)?.len(), 12);
+    /// # Ok::<(), koshirga::Refusal>(())
+    /// ```
+    pub fn vertices_within(&self, vertex: u32, steps: usize) -> Result<Vec<u32>, Refusal> {
+        let (mut order, mut list) = (vec![0; self.longest()], vec![0; self.vertex_count()]);
+        let vertices = vertices_within(self.as_mesh(), vertex, steps, &mut order, &mut list)?;
+        list.truncate(vertices as usize);
+        Ok(list)
     }
 
     /// Renumbers the mesh, and data with 1 or as many entries a vertex as there are vertices: see

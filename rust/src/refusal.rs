@@ -21,6 +21,8 @@ use std::fmt;
 /// | 11 | cell | no vertex is placed there |
 /// | 12 | adjacent triangles | none has a least weight above minus infinity |
 /// | 13 | walk | a vertex is not reached |
+/// | 14 | vertex | a given vertex is not below the vertex count |
+/// | 15 | steps | no path leads to the target |
 /// | 17 | mesh | the first start is not 0, or the last is not the number of entries, ids or triples |
 /// | 18 | mesh | a start is below the one before it |
 /// | 19 | factor | it is not finite, or below 0.5 or above 4.0 |
@@ -147,6 +149,8 @@ impl Refusal {
                 "none has a least weight above minus infinity",
             ),
             13 => ("walk", "a vertex is not reached"),
+            14 => ("vertex", "a given vertex is not below the vertex count"),
+            15 => ("steps", "no path leads to the target"),
             17 => (
                 "mesh",
                 "the first start is not 0, or the last is not the number of entries, ids or \
@@ -208,6 +212,14 @@ mod tests {
         );
         assert_eq!(text(13, 0), "refusal 13 (walk): a vertex is not reached");
         assert_eq!(
+            text(14, 0),
+            "refusal 14 (vertex): a given vertex is not below the vertex count"
+        );
+        assert_eq!(
+            text(15, 0),
+            "refusal 15 (steps): no path leads to the target"
+        );
+        assert_eq!(
             text(17, 0),
             "refusal 17 (mesh): the first start is not 0, or the last is not the number of entries, \
              ids or triples"
@@ -228,7 +240,7 @@ mod tests {
     #[test]
     fn rows_are_those_of_the_header() {
         let rows: Vec<u32> = constants("refusal").map(|(_, number)| number).collect();
-        assert!(rows.iter().copied().eq((0..=13).chain(17..=20)), "{rows:?}");
+        assert!(rows.iter().copied().eq((0..=15).chain(17..=20)), "{rows:?}");
         let row = |number| Refusal { number, index: 0 }.row();
         let lacking = row(u32::MAX);
         let known: Vec<u32> = (0..=99).filter(|&number| row(number) != lacking).collect();

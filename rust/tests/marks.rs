@@ -6,28 +6,16 @@ use koshirga::{
     Scratch,
 };
 
+mod common {
+    pub mod lists;
+}
+use common::lists::mesh;
+
 /// A refusal's number and index.
 type Row = (u32, Option<usize>);
 
 fn row(refusal: Refusal) -> Row {
     (refusal.number(), refusal.index())
-}
-
-/// A mesh from outside with these neighbour lists: unmarked.
-fn mesh(lists: &[&[u16]]) -> MeshData {
-    let mut starts = vec![0];
-    starts.extend(lists.iter().scan(0, |end, list| {
-        *end += list.len() as u32;
-        Some(*end)
-    }));
-    MeshData {
-        positions: (0..lists.len())
-            .flat_map(|id| [1.0, id as f64, 1.0])
-            .collect(),
-        starts,
-        entries: lists.concat(),
-        lists_ascend: false,
-    }
 }
 
 fn marked(mesh: &MeshData, lists_ascend: bool) -> MeshData {

@@ -96,6 +96,8 @@ fn the_header_has_the_sheets_order() {
     for (function, call) in [
         ("koshirga_lattice", "lattice"),
         ("koshirga_walk", "walk"),
+        ("koshirga_steps_between", "steps between two vertices"),
+        ("koshirga_vertices_within", "vertices within so many steps"),
         ("koshirga_renumber", "renumbering"),
         ("koshirga_mark_ascending", "reading call"),
         ("koshirga_build_grid", "grid builder"),

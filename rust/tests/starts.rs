@@ -20,13 +20,15 @@ fn mesh(vertices: u16, starts: &[u32], entries: &[u16]) -> MeshData {
     }
 }
 
-/// The one refusal of the walk, the renumbering, the reading call and the builder. The mesh stays as
-/// it is, its mark too.
+/// The one refusal of the walk, both calls for steps, the renumbering, the reading call and the
+/// builder. The mesh stays as it is, its mark too.
 fn refusal_of(mut mesh: MeshData) -> Refusal {
     let count = mesh.vertex_count() as u32;
     let backwards: Vec<u32> = (0..count).rev().collect();
     let mut levels: Vec<f64> = (0..count).map(f64::from).collect();
     let walk = mesh.bfs_vertex_permutation().unwrap_err();
+    assert_eq!(mesh.steps_between(0, 0), Err(walk));
+    assert_eq!(mesh.vertices_within(0, 0), Err(walk));
     for lists_ascend in [false, true] {
         mesh.lists_ascend = lists_ascend;
         let before = mesh.clone();

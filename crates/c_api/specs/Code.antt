@@ -11,6 +11,7 @@ use Rattle.refusal.specs.Refusal.{Verdict, number_of, index_of}
 use Rattle.master_face.specs.declared.Three.{Three}
 use Rattle.analytic.specs.declared.Signs.{Signs}
 use Rattle.analytic.specs.declared.Located as analytic
+use Rattle.steps.specs.declared.Steps.{Steps}
 use Rattle.grid.specs.declared.Built.{Built}
 use Rattle.packing.specs.declared.LevelRecord.{LevelRecord}
 use Rattle.grid_query.specs.declared.Nearest.{Nearest}
@@ -22,6 +23,8 @@ use Rattle.c_api.specs.declared.FaceAnswer.{FaceAnswer}
 use Rattle.c_api.specs.declared.AnalyticAnswer.{AnalyticAnswer}
 use Rattle.c_api.specs.declared.VertexAnswer.{VertexAnswer}
 use Rattle.c_api.specs.declared.WalkAnswer.{WalkAnswer}
+use Rattle.c_api.specs.declared.StepsAnswer.{StepsAnswer}
+use Rattle.c_api.specs.declared.WithinAnswer.{WithinAnswer}
 use Rattle.c_api.specs.declared.PackAnswer.{PackAnswer}
 use Rattle.c_api.specs.declared.NearestAnswer.{NearestAnswer}
 use Rattle.c_api.specs.declared.LocatedAnswer.{LocatedAnswer}
@@ -83,6 +86,14 @@ vertex_answer (Ok id) = record { refusal = 0; id = id }
 abbrev pub walk_answer : Result ℕ Refusal → WalkAnswer
 walk_answer (Err reason) = record { refusal = number_of reason; entries_read = 0; index = index_of reason }
 walk_answer (Ok read) = record { refusal = 0; entries_read = read; index = 0 }
+
+abbrev pub steps_answer : Result Steps Refusal → StepsAnswer
+steps_answer (Err reason) = record { refusal = number_of reason; steps = 0; entries_read = 0; index = index_of reason }
+steps_answer (Ok found) = record { refusal = 0; steps = found.steps; entries_read = found.entries_read; index = 0 }
+
+abbrev pub within_answer : Result ℕ Refusal → WithinAnswer
+within_answer (Err reason) = record { refusal = number_of reason; vertices = 0; index = index_of reason }
+within_answer (Ok vertices) = record { refusal = 0; vertices = vertices; index = 0 }
 
 abbrev pub build_answer : Result Built Refusal → BuildAnswer
 build_answer (Err reason) = record { refusal = number_of reason; side = 0; index = index_of reason; held = 0 }

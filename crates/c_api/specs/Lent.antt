@@ -3,11 +3,13 @@ use Rattle.std.specs.Prelude.{ℕ, Bool, List, Float}
 use Rattle.mesh.specs.Mesh.{Mesh}
 use Rattle.mesh.specs.Mark.{MarkOutcome}
 use Rattle.walk.specs.Walk.{WalkOutcome}
+use Rattle.steps.specs.Outcomes.{WithinOutcome}
 use Rattle.renumber.specs.Renumber.{RenumberOutcome}
 use Rattle.c_api.specs.declared.VerdictAnswer.{VerdictAnswer}
 use Rattle.c_api.specs.declared.WalkAnswer.{WalkAnswer}
+use Rattle.c_api.specs.declared.WithinAnswer.{WithinAnswer}
 use Rattle.c_api.specs.declared.PackAnswer.{PackAnswer}
-use Rattle.c_api.specs.Code.{build_answer, pack_answer, refusal_code, verdict_answer, walk_answer}
+use Rattle.c_api.specs.Code.{build_answer, pack_answer, refusal_code, verdict_answer, walk_answer, within_answer}
 use Rattle.lattice.specs.Lattice.{LatticeSlices, LatticeOutcome}
 use Rattle.grid.specs.Grid.{GridSlices, BuildOutcome}
 use Rattle.packing.specs.Packing.{PackOutcome}
@@ -24,6 +26,17 @@ walk_left answer order queue = record { answer = answer; order = order; queue = 
 
 abbrev pub walk_left_of : WalkOutcome → WalkLeft
 walk_left_of outcome = walk_left (walk_answer outcome.answered) outcome.order outcome.queue
+
+-- The answer of a call that lists the vertices within so many steps, and the list.
+pub record WithinLeft : Type 0 where
+  pub answer : WithinAnswer
+  pub list : List ℕ
+
+abbrev pub within_left : WithinAnswer → List ℕ → WithinLeft
+within_left answer list = record { answer = answer; list = list }
+
+abbrev pub within_left_of : WithinOutcome → WithinLeft
+within_left_of outcome = within_left (within_answer outcome.answered) outcome.list
 
 -- A reading call's answer, and the mark.
 pub record MarkLeft : Type 0 where

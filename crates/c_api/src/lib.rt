@@ -3,7 +3,7 @@
 
 ghost use Rattle.std.specs.Prelude.{◌≡◌};
 ghost use Rattle.analytic.specs.FaceChoice.{face_index};
-ghost use Rattle.c_api.specs.Code.{verdict_answer, face_answer, analytic_answer, vertex_answer, walk_answer, build_answer, pack_answer, conversion_answer, nearest_answer, located_answer, refusal_code};
+ghost use Rattle.c_api.specs.Code.{verdict_answer, face_answer, analytic_answer, vertex_answer, walk_answer, steps_answer, within_answer, build_answer, pack_answer, conversion_answer, nearest_answer, located_answer, refusal_code};
 
 pub mod arithmetic;
 pub mod buffers;
@@ -18,6 +18,7 @@ use grid_query::{LocatedTriangle, Nearest};
 use icosahedron::Face;
 use packing::LevelRecord;
 use refusal::Refusal;
+use steps::Steps;
 
 // What C receives: a Result as one struct, which C has no other form for. Every answer has the refusal's number first, 0 where the call
 // was accepted. The other fields of a refused answer are 0, but for the index that row 18 carries, in the answers of the calls that have that row.
@@ -146,6 +147,60 @@ impl From<Result<u32, Refusal>> for WalkAnswer {
                 refusal: reason.number(),
                 index: reason.index(),
                 ..WalkAnswer::default()
+            },
+        }
+    }
+}
+
+#[repr(C)]
+#[derive(Clone, Copy, Debug, Default)]
+pub struct StepsAnswer {
+    pub refusal: u32,
+    pub steps: u32,
+    pub entries_read: u32,
+    pub index: usize,
+}
+
+impl From<Result<Steps, Refusal>> for StepsAnswer {
+    ghost from_gives = { λ outcome answer. answer ≡ steps_answer outcome };
+
+    fn from(outcome: Result<Steps, Refusal>) -> StepsAnswer {
+        match outcome {
+            Ok(found) => StepsAnswer {
+                steps: found.steps,
+                entries_read: found.entries_read,
+                ..StepsAnswer::default()
+            },
+            Err(reason) => StepsAnswer {
+                refusal: reason.number(),
+                index: reason.index(),
+                ..StepsAnswer::default()
+            },
+        }
+    }
+}
+
+#[repr(C)]
+#[derive(Clone, Copy, Debug, Default)]
+pub struct WithinAnswer {
+    pub refusal: u32,
+    pub vertices: u32,
+    pub index: usize,
+}
+
+impl From<Result<u32, Refusal>> for WithinAnswer {
+    ghost from_gives = { λ outcome answer. answer ≡ within_answer outcome };
+
+    fn from(outcome: Result<u32, Refusal>) -> WithinAnswer {
+        match outcome {
+            Ok(vertices) => WithinAnswer {
+                vertices,
+                ..WithinAnswer::default()
+            },
+            Err(reason) => WithinAnswer {
+                refusal: reason.number(),
+                index: reason.index(),
+                ..WithinAnswer::default()
             },
         }
     }

@@ -1,12 +1,14 @@
-// Meshes: the walk, the mark of ascending lists, and the renumbering.
-ghost use Rattle.std.specs.Prelude.{◌<◌, ◌≡◌, [], ◌∷◌, length};
+// Meshes: the walk, steps between vertices, the mark of ascending lists, and the renumbering.
+ghost use Rattle.std.specs.Prelude.{◌<◌, ◌≡◌, ◌≢◌, [], ◌∷◌, length};
 ghost use Rattle.mesh.specs.Mesh.{mesh_of};
 ghost use Rattle.mesh.specs.Mark.{mark_ascending};
 ghost use Rattle.walk.specs.Walk.{bfs_vertex_permutation};
+ghost use Rattle.steps.specs.Outcomes.{steps_between, vertices_within};
 ghost use Rattle.renumber.specs.Renumber.{call_of, scratch_of, apply_vertex_permutation};
-ghost use Rattle.c_api.specs.Lent.{walk_left, walk_left_of, mark_left, mark_left_of, renumber_left, renumber_left_of};
+ghost use Rattle.c_api.specs.Code.{steps_answer};
+ghost use Rattle.c_api.specs.Lent.{walk_left, walk_left_of, within_left, within_left_of, mark_left, mark_left_of, renumber_left, renumber_left_of};
 
-use c_api::{VerdictAnswer, WalkAnswer};
+use c_api::{StepsAnswer, VerdictAnswer, WalkAnswer, WithinAnswer};
 
 #[unsafe(no_mangle)]
 pub extern "C" fn koshirga_walk(
@@ -19,6 +21,41 @@ pub extern "C" fn koshirga_walk(
     ensures { walk_left result order.new queue.new ≡ walk_left_of (bfs_vertex_permutation (mesh_of positions.now starts.now entries.now) order.old queue.old) }
 {
     c_api::meshes::koshirga_walk(positions, starts, entries, order, queue)
+}
+
+// Order and queue are scratch. After a refusal they are as they were, but after that of row 15, which leaves them free.
+#[unsafe(no_mangle)]
+pub extern "C" fn koshirga_steps_between(
+    positions: &[f64],
+    starts: &[u32],
+    entries: &[u16],
+    from: u32,
+    to: u32,
+    order: &mut [u32],
+    queue: &mut [u32],
+) -> StepsAnswer
+    ensures answered { result ≡ steps_answer (steps_between (mesh_of positions.now starts.now entries.now) from to (length order.old) (length queue.old)) }
+    ensures order_kept { 0 < result.refusal → result.refusal ≢ 15 → order.new ≡ order.old }
+    ensures queue_kept { 0 < result.refusal → result.refusal ≢ 15 → queue.new ≡ queue.old }
+{
+    c_api::meshes::koshirga_steps_between(positions, starts, entries, from, to, order, queue)
+}
+
+// The vertices are written to the list, whose places behind them stay as they were; order is scratch. After a refusal both slices are as they were.
+#[unsafe(no_mangle)]
+pub extern "C" fn koshirga_vertices_within(
+    positions: &[f64],
+    starts: &[u32],
+    entries: &[u16],
+    vertex: u32,
+    steps: usize,
+    order: &mut [u32],
+    list: &mut [u32],
+) -> WithinAnswer
+    ensures answered { within_left result list.new ≡ within_left_of (vertices_within (mesh_of positions.now starts.now entries.now) vertex steps (length order.old) list.old) }
+    ensures order_kept { 0 < result.refusal → order.new ≡ order.old }
+{
+    c_api::meshes::koshirga_vertices_within(positions, starts, entries, vertex, steps, order, list)
 }
 
 // After a refusal the mark is as it was.

@@ -1,5 +1,5 @@
 -- What the mesh rows let pass, as facts, and back: `list_facts`, `list_passed` for rows 3 and 4, `adjacency_facts`, `adjacency_passed` for rows 2 to 4, `mesh_facts`, `mesh_passed` for rows 2 to 5. Assumes nothing.
-use Prim.Native.Nat.{ℕ, suc, ◌-◌, ◌*◌, ◌%◌, ◌≤◌, ◌<◌}
+use Prim.Native.Nat.{ℕ, zero, suc, ◌-◌, ◌*◌, ◌%◌, ◌≤◌, ◌<◌}
 use native.Mathlib.Omega.{arith}
 use mathlib.Core.Path.{◌≡◌, refl}
 use mathlib.Core.Bool.{true}
@@ -136,3 +136,11 @@ module _ (m : Mesh) (facts : AdjacencyFacts m) where
 pub mesh_passed : (m : Mesh) → MeshFacts m → mesh_rows m ≡ Ok tt
 unfolding mesh_rows positions_admissible
 mesh_passed m facts = rw (adjacency_passed m facts.adjacency, all_below_intro (λ v. admissible (position_of m.positions v)) (count m) facts.admissible_positions) refl
+
+-- no list is over 32, so that their entries are few
+pub entries_limited : (m : Mesh) → AdjacencyFacts m → length m.entries ≤ count m * longest_list
+entries_limited m facts = omega (arith, facts.rows.last, before (count m) (omega arith))
+  where
+    before : (v : ℕ) → v ≤ count m → get_or m.starts v 0 ≤ v * longest_list
+    before zero le = omega (arith, facts.rows.first)
+    before (suc v) le = omega (arith, before v (omega arith), facts.limited v (omega arith))

@@ -61,6 +61,19 @@ impl<'a> Mesh<'a> {
         self.positions
     }
 
+    // Where each neighbour list starts among the entries, and where the last one ends.
+    pub fn starts(&self) -> &'a [u32]
+        ensures { result.now ≡ self.now.starts }
+    {
+        self.starts
+    }
+
+    pub fn entries(&self) -> &'a [u16]
+        ensures { result.now ≡ self.now.entries }
+    {
+        self.entries
+    }
+
     // The position of a vertex.
     pub fn position(&self, vertex: usize) -> Vector3
         requires { vertex < count self.now }

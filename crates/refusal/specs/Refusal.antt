@@ -1,9 +1,9 @@
 -- The refusals, and chains of their rows: a row's refusal is returned alone, exactly where that row holds and no earlier one does. Definitions only.
 use Rattle.std.specs.Prelude.{ℕ, Bool, true, false, Result, Ok, Err}
 use Rattle.refusal.specs.declared.Refusal.{Refusal}
-use Rattle.refusal.specs.declared.Refusal.TheVariants.{Frequency, Count, Starts, Id, Position, Permutation, EntriesPerVertex, Room, Direction, Flags, EmptyCell, NoTriangle, Unreached, StartsSpan, StartsFall, Factor, Margin}
+use Rattle.refusal.specs.declared.Refusal.TheVariants.{Frequency, Count, Starts, Id, Position, Permutation, EntriesPerVertex, Room, Direction, Flags, EmptyCell, NoTriangle, Unreached, Vertex, NoPath, StartsSpan, StartsFall, Factor, Margin}
 
--- The number of a refusal's row. 14 to 16 are not in use.
+-- The number of a refusal's row. 16 is not in use.
 abbrev pub number_of : Refusal → ℕ
 number_of Frequency = 1
 number_of Count = 2
@@ -18,6 +18,8 @@ number_of Flags = 10
 number_of EmptyCell = 11
 number_of NoTriangle = 12
 number_of Unreached = 13
+number_of Vertex = 14
+number_of NoPath = 15
 number_of StartsSpan = 17
 number_of (StartsFall index) = 18
 number_of Factor = 19
@@ -38,6 +40,8 @@ index_of Flags = 0
 index_of EmptyCell = 0
 index_of NoTriangle = 0
 index_of Unreached = 0
+index_of Vertex = 0
+index_of NoPath = 0
 index_of StartsSpan = 0
 index_of (StartsFall index) = index
 index_of Factor = 0

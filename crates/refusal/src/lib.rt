@@ -21,6 +21,8 @@ pub enum Refusal {
     EmptyCell,
     NoTriangle,
     Unreached,
+    Vertex,
+    NoPath,
     StartsSpan,
     // Names the start that falls, by its index.
     StartsFall { index: usize },
@@ -48,6 +50,8 @@ impl Refusal {
             Refusal::EmptyCell => 11,
             Refusal::NoTriangle => 12,
             Refusal::Unreached => 13,
+            Refusal::Vertex => 14,
+            Refusal::NoPath => 15,
             Refusal::StartsSpan => 17,
             Refusal::StartsFall { index: _ } => 18,
             Refusal::Factor => 19,

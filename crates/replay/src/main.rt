@@ -11,6 +11,7 @@ mod places;
 mod queries;
 mod renumberings;
 mod report;
+mod searches;
 mod slices;
 
 use records::{Fault, Hashes, Reader, Words};
@@ -38,6 +39,8 @@ enum Kind {
     ToF32,
     Packing,
     PackedLattices,
+    StepsBetween,
+    VerticesWithin,
 }
 
 // A file of records of one kind.
@@ -48,7 +51,7 @@ struct File {
 }
 
 // A kind's number is its place here. Right records are also read by this table, so that a wrong kind shows as differences.
-static FILES: [File; 16] = [
+static FILES: [File; 18] = [
     File {
         name: "mul_add",
         kind: Kind::MulAdd,
@@ -113,6 +116,14 @@ static FILES: [File; 16] = [
         name: "packed_lattices",
         kind: Kind::PackedLattices,
     },
+    File {
+        name: "steps_between",
+        kind: Kind::StepsBetween,
+    },
+    File {
+        name: "vertices_within",
+        kind: Kind::VerticesWithin,
+    },
 ];
 
 static LOCATORS: [&str; 5] = [
@@ -142,6 +153,8 @@ fn replay_record(kind: Kind, reader: &mut Reader) -> Result<(), Fault> {
         Kind::ToF32 => arithmetic::replay_to_f32(reader),
         Kind::Packing => buffers::packing(reader),
         Kind::PackedLattices => buffers::packed_lattices(reader),
+        Kind::StepsBetween => searches::steps_between(reader),
+        Kind::VerticesWithin => searches::vertices_within(reader),
     }
 }
 
@@ -168,7 +181,7 @@ fn replay_numbered(reader: &mut Reader) -> Result<(), Fault> {
 
 // A small buffer: the compiler may put it into main's frame, which lies under every other call's.
 fn replay_wrong(rt: &(impl Files + Print), name: &str) -> io::Result<()> {
-    let tally = Tally::of_file_within::<16384, _>(rt, name, |text| {
+    let tally = Tally::of_file_within::<32768, _>(rt, name, |text| {
         Tally::default().count_lines(text, replay_numbered)
     })?;
     report::print_noticed(rt, name, tally)

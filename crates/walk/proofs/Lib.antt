@@ -1,6 +1,8 @@
 pub mod Queue
-pub mod Visited
+pub mod Continued
 pub mod Order
 pub mod Outcome
 pub mod Theorems
 pub mod Cases
+pub mod Reading
+pub mod Reached

@@ -22,6 +22,7 @@ use Rattle.sequences.proofs.Tabulate.{length_tabulate, tabulate_at, tabulate_uni
 use Rattle.sequences.proofs.Ascending.{pairwise_append, distinct_at, is_member_false}
 use Rattle.walk.specs.Walk.{enter, entered, unreached, place_from, order_of}
 use Rattle.walk.specs.Buffers.{DistinctIds, Holding}
+use Rattle.walk.proofs.Reading.{entered_append}
 
 -- ---- the place of an id
 -- an id of the queue has a place in it, the one that holds it
@@ -142,14 +143,10 @@ enter_absent : (q : List ℕ) (v : ℕ) → is_member v q ≡ false → enter q 
 unfolding enter
 enter_absent q v m = rw m refl
 
-entered_append : (q xs : List ℕ) (v : ℕ) → entered q (xs ++ (v ∷ [])) ≡ enter (entered q xs) v
-unfolding entered
-entered_append q [] v = refl
-entered_append q (x ∷ xs) v = entered_append (enter q x) xs v
-
 -- one more place of a list
 pub entered_next : (q list : List ℕ) (i : ℕ) → i < length list → entered q (take (i + 1) list) ≡ enter (entered q (take i list)) (get_or list i 0)
-entered_next q list i lt = rw (add-one, take-suc list i 0 lt) (entered_append q (take i list) (get_or list i 0))
+unfolding entered
+entered_next q list i lt = rw (add-one, take-suc list i 0 lt) (entered_append q (take i list) (get_or list i 0 ∷ []))
 
 -- ---- the queue grows at its end
 enter_longer : (q : List ℕ) (v : ℕ) → length q ≤ length (enter q v)
@@ -232,7 +229,7 @@ module _ {n : ℕ} {q old : List ℕ} {reached : ℕ} {order queue : List ℕ} (
   pub holding_below : (i : ℕ) → i < reached → get_or queue i 0 < n
   holding_below i lt = let r = ids_below_lem h.once i (omega (arith, h.size)) in omega (arith, holding_at i lt)
 
-  holding_take : take reached queue ≡ q
+  pub holding_take : take reached queue ≡ q
   holding_take = ap (take reached) h.queued ∙ take_overwrite q old reached h.size
 
   -- the same, the queue before left out of account
@@ -263,16 +260,17 @@ pub holding_then : {n : ℕ} {q old : List ℕ} {reached : ℕ} {order queue : L
     → Holding (length order) (entered (take reached queue) list) queue reached₁ order₁ queue₁ → Holding n (entered q list) old reached₁ order₁ queue₁
 holding_then {q} h list later = holding_longer h (entered_longer q list) (rw (holding_order_length h, holding_take h) at later)
 
--- vertex 0 enters
-pub holding_first : {n : ℕ} {old order : List ℕ} → 0 < n → n ≤ unreached → n ≤ length old → order ≡ order_of n [] → Holding n (0 ∷ []) old 1 (set order 0 0) (set old 0 0)
-unfolding enter is_member order_of place_from overwrite
-holding_first {n} {old} {order} some few room cleared =
-    holding_new none few 0 some room (ap (λ (l : List ℕ). get_or l 0 0) cleared ∙ tabulate_at n (place_from 0 []) 0 0 some)
-  where
-    none : Holding n [] old 0 order old
-    none = record {
-      size = refl;
-      once = record { below = λ v m. absurd (Memᴰ.not-nil m); distinct = tt };
-      numbered = cleared;
-      queued = refl;
-    }
+-- no id has entered
+pub holding_none : {n : ℕ} {old order : List ℕ} → order ≡ order_of n [] → Holding n [] old 0 order old
+unfolding overwrite
+holding_none cleared = record { size = refl; once = record { below = λ v m. absurd (Memᴰ.not-nil m); distinct = tt }; numbered = cleared; queued = refl }
+
+-- a vertex that has no number enters
+holding_behind : {n : ℕ} {q old order queue : List ℕ} {reached : ℕ} → Holding n q old reached order queue → n ≤ unreached → (v : ℕ) → v < n → n ≤ length old → get_or order v 0 ≡ unreached
+    → Holding n (q ++ (v ∷ [])) old (reached + 1) (set order v reached) (set queue reached v)
+holding_behind {q} h few v lt room e = rw (enter_absent q v (unnumbered_absent h few v lt e)) at (holding_new h few v lt room e)
+
+-- the first of all
+pub holding_first : {n : ℕ} {old order : List ℕ} (v : ℕ) → v < n → n ≤ unreached → n ≤ length old → order ≡ order_of n [] → Holding n (v ∷ []) old 1 (set order v 0) (set old 0 v)
+unfolding order_of place_from
+holding_first {n} v lt few room cleared = holding_behind (holding_none cleared) few v lt room (ap (λ (l : List ℕ). get_or l v 0) cleared ∙ tabulate_at n (place_from 0 []) v 0 lt)

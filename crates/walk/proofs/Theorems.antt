@@ -1,4 +1,4 @@
--- What a walk's outcome has. Accepted: a permutation, its inverse in the queue, and all entries read (`walk_accepted`). Err by row 13: the reached ids are numbered, no others (`unreached_numbered`). Err by any row: what the index tells (`walk_index`). Assumes nothing.
+-- What the complete walk from any vertex reaches (`walk_follows_paths`), and what a walk's outcome has. Accepted: a permutation, its inverse in the queue, and all entries read (`walk_accepted`). Err by row 13: the reached ids are numbered, no others (`unreached_numbered`). Err by any row: what the index tells (`walk_index`). Assumes nothing.
 use Prim.Native.Nat.{ℕ, ◌<◌}
 use native.Mathlib.Omega.{arith}
 use mathlib.Core.Path.{◌≡◌, refl, sym, ap, subst, ◌∙◌}
@@ -24,27 +24,38 @@ use Rattle.mesh.proofs.Facts.{adjacency_facts}
 use Rattle.mesh.proofs.Neighbours.{neighbour_below, entries_of_neighbours}
 use Rattle.mesh.specs.Laws.{IndexTold}
 use Rattle.mesh.proofs.Refusals.{told_none, adjacency_index, adjacency_reasons}
-use Rattle.walk.specs.Walk.{breadth_first, order_of, WalkOutcome, walked, bfs_vertex_permutation}
+use Rattle.walk.specs.Walk.{order_of, WalkOutcome, walked, bfs_vertex_permutation}
 use Rattle.walk.specs.Buffers.{DistinctIds}
-use Rattle.walk.specs.Laws.{visit_of, AcceptedWalk, PartialWalk}
+use Rattle.walk.specs.Laws.{WalkFollowsPaths, visit_of, AcceptedWalk, PartialWalk}
 use Rattle.walk.proofs.Queue.{ids_at_most, ids_permutation}
 use Rattle.walk.proofs.Outcome.{Found, rows_refuse, short, made_of, found}
-use Rattle.walk.proofs.Visited.{visited_ids, all_entries_read}
+use Rattle.walk.proofs.Continued.{walk_ids, all_entries_read}
+use Rattle.walk.proofs.Reached.{path_reached, reached_path}
 use Rattle.walk.proofs.Order.{length_order, number_of_place, number_of_member, number_of_absent, order_inverse, order_permutation}
+
+-- the complete walk from any vertex
+pub walk_follows_paths : WalkFollowsPaths
+walk_follows_paths m v passed lt =
+    let facts = adjacency_facts m passed in
+    let ids = walk_ids (neighbours m) v lt (λ v lt x k. neighbour_below m facts v x k) in
+    let most = ids_at_most ids in
+    record {
+      ids = ids;
+      reached = λ w. (reached_path (neighbours m) v (count m) most w, λ p. path_reached (neighbours m) v (count m) most p.1);
+    }
 
 module _ (m : Mesh) (passed : adjacency_rows m ≡ Ok tt) where
   -- the queue's ids are below the vertex count, and none is there twice
   pub queue_ids : DistinctIds (count m) (visit_of m).queue
-  unfolding breadth_first
   queue_ids =
       let facts = adjacency_facts m passed in
-      visited_ids (neighbours m) facts.some (λ v lt x k. neighbour_below m facts v x k) (count m)
+      walk_ids (neighbours m) 0 facts.some (λ v lt x k. neighbour_below m facts v x k)
 
   -- a walk that reached every vertex has read every entry
   pub all_read : length (visit_of m).queue ≡ count m → (visit_of m).entries_read ≡ length m.entries
   all_read all =
       let facts = adjacency_facts m passed in
-      all_entries_read (neighbours m) facts.some (λ v lt x k. neighbour_below m facts v x k) all
+      all_entries_read (neighbours m) 0 facts.some (λ v lt x k. neighbour_below m facts v x k) all
       ∙ sym (length_concatenate (count m) (neighbours m)) ∙ ap length (entries_of_neighbours m facts)
 
 -- ---- accepted, or refused by row 13 or another

@@ -5,7 +5,7 @@ use Rattle.sequences.specs.Tabulate.{overwrite}
 use Rattle.sequences.specs.Starts.{CompressedRows}
 use Rattle.sequences.specs.Ascending.{Distinct}
 use Rattle.walk.specs.declared.Reach.{Reach}
-use Rattle.walk.specs.Walk.{breadth_first, unreached, order_of}
+use Rattle.walk.specs.Walk.{begun, continued, breadth_first, unreached, order_of}
 
 -- Ids of n vertices, none twice.
 pub record DistinctIds (n : ℕ) (ids : List ℕ) : Type 0 where
@@ -26,6 +26,11 @@ pub record Walkable (starts entries order queue : List ℕ) : Type 0 where
   pub some : 1 ≤ length order
   pub few : length order ≤ unreached
   pub room : length order ≤ length queue
+
+-- What a walk that had found `ids` leaves once it has left k places from the place `from` on: how far it reached, the entries read on the way, and its buffers, `old` the queue before.
+pub record Continued (n : ℕ) (lists : ℕ → List ℕ) (ids : List ℕ) (from k : ℕ) (old : List ℕ) (reach : Reach) (order queue : List ℕ) : Type 0 where
+  pub holds : Holding n (continued lists (begun ids) from k).queue old reach.vertices order queue
+  pub entries_agree : reach.entries ≡ (continued lists (begun ids) from k).entries_read
 
 -- What the walk over the lists of n vertices leaves: how far it reached, and its buffers, `old` the queue before.
 pub record Traversed (n : ℕ) (lists : ℕ → List ℕ) (old : List ℕ) (reach : Reach) (order queue : List ℕ) : Type 0 where

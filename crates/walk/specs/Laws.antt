@@ -1,5 +1,5 @@
--- This crate's theorems: what an accepted walk has, what one that row 13 refuses leaves, what the index of a refusal tells, and a worked case. Definitions only.
-use Rattle.std.specs.Prelude.{ℕ, ◌<◌, ◌≡◌, true, [], ◌∷◌, length, take, slice_index_or, Ok, Err}
+-- This crate's theorems: what a walk from any vertex reaches, what an accepted walk has, what one that row 13 refuses leaves, what the index of a refusal tells, and a worked case. Definitions only.
+use Rattle.std.specs.Prelude.{ℕ, ◌<◌, ◌≡◌, ◌↔◌, true, [], ◌∷◌, length, take, slice_index_or, Ok, Err}
 use mathlib.Core.List.{List, Memᴰ}
 use Rattle.sequences.specs.Tabulate.{overwrite}
 use Rattle.sequences.specs.Ascending.{Distinct}
@@ -7,9 +7,20 @@ use Rattle.sequences.specs.Permutation.{at, is_permutation}
 use Rattle.refusal.specs.declared.Refusal.{Refusal}
 use Rattle.refusal.specs.declared.Refusal.TheVariants.{Unreached}
 use Rattle.mesh.specs.Mesh.{Mesh, count, neighbours}
+use Rattle.mesh.specs.Rows.{adjacency_rows}
 use Rattle.mesh.specs.Laws.{IndexTold}
-use Rattle.walk.specs.Walk.{Visit, breadth_first, unreached, bfs_vertex_permutation}
+use Rattle.walk.specs.Walk.{Visit, walk_from, breadth_first, unreached, bfs_vertex_permutation}
 use Rattle.walk.specs.Buffers.{DistinctIds}
+use Rattle.walk.specs.Paths.{PathTo}
+
+-- ---- the complete walk from a vertex
+-- What it has in its queue: the vertices that a path leads to and no others, ids below n and none twice.
+pub record PathsFollowed (n : ℕ) (lists : ℕ → List ℕ) (v : ℕ) : Type 0 where
+  pub ids : DistinctIds n (walk_from n lists v).queue
+  pub reached : (w : ℕ) → Memᴰ w (walk_from n lists v).queue ↔ ((k : ℕ) × PathTo lists v w k)
+
+abbrev pub WalkFollowsPaths : Type 0
+WalkFollowsPaths = (m : Mesh) (v : ℕ) → adjacency_rows m ≡ Ok tt → v < count m → PathsFollowed (count m) (neighbours m) v
 
 -- ---- an accepted walk
 -- What it leaves for n vertices and so many entries: all entries were read, order and queue are permutations, and each is the other's inverse.

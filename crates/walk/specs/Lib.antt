@@ -1,3 +1,4 @@
 pub mod Walk
 pub mod Buffers
+pub mod Paths
 pub mod Laws

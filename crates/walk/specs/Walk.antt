@@ -1,5 +1,5 @@
--- The walk: breadth first from vertex 0, each list in its stored order. It gives each old id its new one, leaves the old ids in that order in its queue, and counts the entries that it reads. Definitions only.
-use Rattle.std.specs.Prelude.{ℕ, zero, suc, ◌+◌, Bool, true, false, ◌&&◌, cond, List, [], ◌∷◌, ◌++◌, leb, ltb, eqb, length, get_or, Result, Ok, Err}
+-- A walk: breadth first from a vertex, each list in its stored order, with the count of entries that it reads. The call walks from vertex 0: it gives each old id its new one, and leaves the old ids in that order in its queue. Definitions only.
+use Rattle.std.specs.Prelude.{ℕ, zero, suc, ◌+◌, Bool, true, false, ◌&&◌, cond, List, [], ◌∷◌, ◌++◌, nat_lt, leb, eqb, length, get_or, Result, Ok, Err}
 use Rattle.sequences.specs.Tabulate.{tabulate, overwrite}
 use Rattle.sequences.specs.Ascending.{is_member}
 use Rattle.refusal.specs.declared.Refusal.{Refusal}
@@ -29,14 +29,24 @@ leave lists visit true k =
     record { queue = entered visit.queue list; entries_read = visit.entries_read + length list }
 leave lists visit false k = visit
 
--- After the first k places of the queue were left, from vertex 0 on.
-unfoldable pub visited : (ℕ → List ℕ) → ℕ → Visit
-visited lists zero = record { queue = 0 ∷ []; entries_read = 0 }
-visited lists (suc k) = let visit = visited lists k in leave lists visit (ltb k (length visit.queue)) k
+-- These ids have entered, and no entry has been read.
+abbrev pub begun : List ℕ → Visit
+begun ids = record { queue = ids; entries_read = 0 }
 
--- The walk over the lists of n vertices. An id enters once, so that after n places no place is left over.
-unfoldable pub breadth_first : ℕ → (ℕ → List ℕ) → Visit
-breadth_first n lists = visited lists n
+-- A walk that has found `visit` and goes on at the place `from` of its queue, after k further places were left.
+unfoldable pub continued : (ℕ → List ℕ) → Visit → ℕ → ℕ → Visit
+continued lists visit from zero = visit
+continued lists visit from (suc k) =
+    let found = continued lists visit from k in
+    leave lists found (nat_lt (from + k) (length found.queue)) (from + k)
+
+-- The complete walk from v over the lists of n vertices. An id enters once, so that after n places no place is left over.
+unfoldable pub walk_from : ℕ → (ℕ → List ℕ) → ℕ → Visit
+walk_from n lists v = continued lists (begun (v ∷ [])) 0 n
+
+-- The walk: that from vertex 0.
+abbrev pub breadth_first : ℕ → (ℕ → List ℕ) → Visit
+breadth_first n lists = walk_from n lists 0
 
 -- What the order holds for an id that was not reached.
 abbrev pub unreached : ℕ

@@ -1,5 +1,10 @@
 // Theorems about the walk, each the contract of a function without code.
-ghost use Rattle.walk.specs.Laws.{WalkAccepted, UnreachedNumbered, WalkIndex, TwelveWalked};
+ghost use Rattle.walk.specs.Laws.{WalkFollowsPaths, WalkAccepted, UnreachedNumbered, WalkIndex, TwelveWalked};
+
+/// On a mesh that rows 2 to 4 let pass, the complete walk from any vertex reaches exactly the vertices that a path leads to, each once.
+pub fn walk_follows_paths()
+    ensures { WalkFollowsPaths }
+{}
 
 /// What a walk leaves that is accepted, what one leaves that does not reach every vertex, and what the index of a refusal tells.
 pub fn walk_outcomes()

@@ -78,6 +78,9 @@ pub fn run() {
         packing(frequency);
     }
     meshes(80);
+    for frequency in [20, 40, 80] {
+        steps(frequency);
+    }
 }
 
 /// Both locators and the nearest query of a grid at the usual pair; the nearest query also where the
@@ -257,6 +260,81 @@ fn meshes(frequency: usize) {
     print_times(&format!("renumber {frequency}"), renumber, rust_renumber);
     let name = format!("renumber {frequency}, Rust + sort");
     print_times(&name, renumber, rust_sorted);
+}
+
+/// The list of all vertices beside the Rust's walk, which gives the same order and allocates its own
+/// slices. Steps to the last vertex of that walk and to the one halfway beside a plain search in the
+/// slices that the engine is lent. The search tests no rows: their share is the time of a call that
+/// row 14, behind those of the mesh, refuses.
+fn steps(frequency: usize) {
+    let lists = Lattice::new(frequency).lists;
+    let neighbors = &lists.neighbors;
+    let flat = lists.flat();
+    let room = flat.positions.len().max(flat.entries.len());
+    let (mut order, mut queue) = (vec![0; room], vec![0; room]);
+    let walk = koshirga::bfs_vertex_permutation(flat.as_mesh(), &mut order, &mut queue);
+    assert!(walk.is_ok());
+    let [last, halfway] = [flat.count() - 1, flat.count() / 2].map(|at| queue[at]);
+    let mut times = [const { Vec::new() }; 7];
+    for _ in 0..MESH_ROUNDS {
+        times[0].push(once(|| {
+            koshirga::vertices_within(flat.as_mesh(), 0, usize::MAX, &mut order, &mut queue)
+        }));
+        times[1].push(once(|| rust::bfs_vertex_permutation(neighbors)));
+        times[2].push(once(|| {
+            koshirga::steps_between(flat.as_mesh(), 0, u32::MAX, &mut order, &mut queue)
+        }));
+        for (pair, to) in [last, halfway].into_iter().enumerate() {
+            times[3 + 2 * pair].push(once(|| {
+                koshirga::steps_between(flat.as_mesh(), 0, to, &mut order, &mut queue)
+            }));
+            times[4 + 2 * pair].push(once(|| search(&flat, 0, to, &mut order, &mut queue)));
+        }
+    }
+    let [within, rust_walk, refused, last, plain_last, halfway, plain_halfway] = times.map(median);
+    print_times(&format!("within, all {frequency}"), within, rust_walk);
+    print_times(&format!("steps {frequency}, Rust search"), last, plain_last);
+    let name = format!("steps {frequency}, search halfway");
+    print_times(&name, halfway, plain_halfway);
+    let name = format!("steps {frequency}, refused by 14");
+    println!("{name:<26}  {refused:>8.1}  {:>6}", "none");
+}
+
+/// Steps and entries read, breadth first, one pass over each list, stopped at the target.
+fn search(
+    mesh: &Flat,
+    from: u32,
+    to: u32,
+    steps: &mut [u32],
+    queue: &mut [u32],
+) -> Option<[u32; 2]> {
+    if from == to {
+        return Some([0, 0]);
+    }
+    let steps = &mut steps[..mesh.count()];
+    steps.fill(u32::MAX);
+    steps[from as usize] = 0;
+    queue[0] = from;
+    let (mut head, mut reached, mut read) = (0, 1, 0);
+    while head < reached {
+        let id = queue[head] as usize;
+        let list = mesh.starts[id] as usize..mesh.starts[id + 1] as usize;
+        let next = steps[id] + 1;
+        for &entry in &mesh.entries[list] {
+            read += 1;
+            if steps[usize::from(entry)] == u32::MAX {
+                let entry = u32::from(entry);
+                if entry == to {
+                    return Some([next, read]);
+                }
+                steps[entry as usize] = next;
+                queue[reached] = entry;
+                reached += 1;
+            }
+        }
+        head += 1;
+    }
+    None
 }
 
 fn renumbering(flat: &Flat, permutation: &[u32]) -> f64 {

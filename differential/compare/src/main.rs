@@ -28,6 +28,7 @@ mod record;
 mod renumber;
 mod reserved;
 mod rows;
+mod steps;
 mod stored;
 mod vectors;
 mod walk;
@@ -40,13 +41,14 @@ use std::io::{self, BufWriter, Write};
 use std::path::Path;
 use std::process::ExitCode;
 
-const TOPICS: [Topic; 13] = [
+const TOPICS: [Topic; 14] = [
     Topic::new("helpers", helpers::checks),
     Topic::new("arithmetic", arithmetic::checks),
     Topic::new("vectors", vectors::checks),
     Topic::new("weights", weights::checks),
     Topic::new("analytic", analytic::checks),
     Topic::new("walk", walk::checks),
+    Topic::new("steps", steps::checks),
     Topic::new("renumber", renumber::checks),
     Topic::new("lattices", lattices::checks),
     Topic::new("marks", marks::checks),

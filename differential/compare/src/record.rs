@@ -14,6 +14,7 @@ use crate::patterns::{Patterns, Random, SIGN};
 use crate::queries::{self, Answers, Slices};
 use crate::renumber::{self, State};
 use crate::rows::{adjacency_row, by_hand, damage, Reason};
+use crate::steps;
 use crate::walk;
 use crate::zeros::{self, first_of_both};
 use icotable_oracle as rust;
@@ -48,10 +49,14 @@ const IDENTITIES: usize = 6;
 /// Frequencies whose lattices are packed, and random grids that are.
 const PACKED: [usize; 5] = [1, 2, 3, 7, 20];
 const PACKINGS: usize = 60;
+/// Random meshes that are searched, half of them damaged, and the calls on each; the vertices of a path.
+const SEARCHED: usize = 120;
+const SEARCHES: usize = 8;
+const PATH: usize = 40;
 
 /// What the wrong records are made of: the file of a right one, the record in it, and the word of its
 /// answers that is changed, both counted from 0.
-const WRONG: [(&str, usize, usize); 23] = [
+const WRONG: [(&str, usize, usize); 32] = [
     ("mul_add", 0, 0),
     ("sqrt", 0, 0),
     // The conversion, of a negative number and of a positive one.
@@ -89,6 +94,19 @@ const WRONG: [(&str, usize, usize); 23] = [
     // The hashes of words and floats: u32 and f32.
     ("packed_lattices", 0, 14),
     ("packed_lattices", 0, 15),
+    // Of the third search, which is accepted: refusal, steps, entries read; the refusal of one that
+    // finds no path.
+    ("steps_between", 0, 8),
+    ("steps_between", 0, 9),
+    ("steps_between", 0, 10),
+    ("steps_between", 0, 16),
+    // Of the first list: refusal, count, the second vertex, the first place behind; of one that is
+    // refused: a place.
+    ("vertices_within", 0, 0),
+    ("vertices_within", 0, 1),
+    ("vertices_within", 0, 4),
+    ("vertices_within", 0, 6),
+    ("vertices_within", 0, 58),
 ];
 /// The same for the mark after a lattice, a reading and a renumbering: the file, and what becomes of
 /// the mark. The shortest record of this kind is taken.
@@ -99,7 +117,7 @@ const WRONG_MARKS: [(&str, Marked); 4] = [
     ("renumberings", accepted(false, true)),
 ];
 /// The same for the index of row 18: the file, and the call whose first index is changed.
-const WRONG_INDICES: [(&str, &str); 7] = [
+const WRONG_INDICES: [(&str, &str); 9] = [
     ("meshes", READING),
     ("meshes", WALK),
     ("meshes", BUILDER),
@@ -107,6 +125,8 @@ const WRONG_INDICES: [(&str, &str); 7] = [
     ("grid_queries", NEAREST),
     ("grid_queries", LOCATION),
     ("packings", PACKING),
+    ("steps_between", SEARCH),
+    ("vertices_within", WITHIN),
 ];
 /// Files of which one record has +0 for −0 in its answers, where the clause tells the two apart: a
 /// minimum, and a least weight that was +0 by document 01.
@@ -122,12 +142,16 @@ const RENUMBERING: &str = "renumbering";
 const NEAREST: &str = "nearest";
 const LOCATION: &str = "location";
 const PACKING: &str = "packing";
+const SEARCH: &str = "search";
+const WITHIN: &str = "within";
 /// The rows that have to refuse some call of a file.
-const REACHED: [(&str, &[u32]); 4] = [
+const REACHED: [(&str, &[u32]); 6] = [
     ("meshes", &[2, 3, 17, 18, 4, 5, 8, 13]),
     ("renumberings", &[2, 3, 17, 18, 4, 6, 7, 8]),
     ("grid_queries", &[2, 3, 9, 18, 11, 4, 12]),
     ("packings", &[2, 19, 20, 3, 17, 18, 4, 5, 8]),
+    ("steps_between", &[2, 3, 17, 18, 4, 14, 8, 15]),
+    ("vertices_within", &[2, 3, 17, 18, 4, 14, 8]),
 ];
 
 /// A call that is lent the mark: whether it is accepted, and the mark before and after it.
@@ -344,6 +368,14 @@ impl Record {
             .index(PACKING, answer.err())
     }
 
+    /// The answer of a search: steps and entries read.
+    fn found(self, answer: Result<[u32; 2], Reason>) -> Self {
+        self.outcome()
+            .refusal(answer.err())
+            .numbers(&answer.unwrap_or_default())
+            .index(SEARCH, answer.err())
+    }
+
     fn answers(self, answers: &Answers) -> Self {
         let row = answers.nearest.as_ref().err().copied();
         let record = self.outcome().refusal(row);
@@ -467,6 +499,8 @@ pub fn write(folder: &Path) -> io::Result<()> {
         ("to_f32", to_f32),
         ("packings", packings),
         ("packed_lattices", packed_lattices),
+        ("steps_between", steps_between),
+        ("vertices_within", vertices_within),
     ]
     .map(|(name, records)| (name.to_string(), records()))
     .into();
@@ -1727,6 +1761,407 @@ fn packed_lattices() -> Records {
     records.push(packed_together(&of(false), [5, 4]));
     records.push(packed_together(&of(true), [0, 1]));
     records.push(packed_together(&both[..4].concat(), [3, 0]));
+    records
+}
+
+/// A mesh whose positions are zeros, as both calls have no row for coordinates.
+fn searched(lists: &[&[u16]]) -> Flat {
+    let neighbors: Vec<Vec<u16>> = lists.iter().map(|list| list.to_vec()).collect();
+    let vertices = vec![[0.0; 3]; lists.len()];
+    Lists {
+        vertices,
+        neighbors,
+    }
+    .flat()
+}
+
+/// So many vertices, each a neighbour of the one before it and of the one behind it.
+fn path(count: u16) -> Flat {
+    let beside = |v: u16| [v.checked_sub(1), (v + 1 < count).then_some(v + 1)];
+    let lists: Vec<Vec<u16>> = (0..count)
+        .map(|v| beside(v).into_iter().flatten().collect())
+        .collect();
+    searched(&lists.iter().map(Vec::as_slice).collect::<Vec<_>>())
+}
+
+/// The ids that the Rust's walk begun at a vertex reaches, in its order.
+fn walk_begun_at(from: usize, lists: &[Vec<u16>]) -> Vec<usize> {
+    let new_of_old = steps::rust_walk(lists, from);
+    let mut reached: Vec<usize> = (0..lists.len())
+        .filter(|&id| new_of_old[id] != usize::MAX)
+        .collect();
+    reached.sort_by_key(|&id| new_of_old[id]);
+    reached
+}
+
+/// The length of the shortest path to each vertex, after Bellman and Ford: none is known at first but
+/// that to the vertex itself, and each entry may shorten one.
+fn shortest_paths(from: usize, lists: &[Vec<u16>]) -> Vec<Option<usize>> {
+    let mut lengths = vec![None; lists.len()];
+    lengths[from] = Some(0);
+    for _ in lists {
+        for (v, list) in lists.iter().enumerate() {
+            let Some(length) = lengths[v] else { continue };
+            for &id in list {
+                let known = &mut lengths[usize::from(id)];
+                *known = Some(known.map_or(length + 1, |known: usize| known.min(length + 1)));
+            }
+        }
+    }
+    lengths
+}
+
+/// Steps and entries read: the walk's lists are read entry by entry, until one is the target.
+fn steps_beside(from: usize, to: usize, lists: &[Vec<u16>]) -> Result<[u32; 2], Reason> {
+    if from == to {
+        return Ok([0, 0]);
+    }
+    let steps = shortest_paths(from, lists)[to].ok_or(Reason::row(15))?;
+    let walk = walk_begun_at(from, lists);
+    let mut entries = walk.iter().flat_map(|&v| &lists[v]);
+    let before = entries.position(|&id| usize::from(id) == to);
+    let read = before.expect("an entry that a path leads over") + 1;
+    Ok([steps as u32, read as u32])
+}
+
+/// Those of the walk's ids that a path so short leads to.
+fn within_beside(vertex: usize, steps: usize, lists: &[Vec<u16>]) -> Vec<u32> {
+    let lengths = shortest_paths(vertex, lists);
+    let is_near = |&v: &usize| lengths[v].is_some_and(|length| length <= steps);
+    let walk = walk_begun_at(vertex, lists).into_iter();
+    walk.filter(is_near).map(|v| v as u32).collect()
+}
+
+/// So many places are asked of scratch.
+fn longest(mesh: &Flat) -> usize {
+    let lengths = needed(mesh, &[]);
+    lengths.into_iter().max().unwrap_or(0)
+}
+
+/// The rows of both calls: those of the mesh, 14 for the given vertices, and 8 where a slice is short.
+fn search_row(mesh: &Flat, given: &[u32], is_short: bool) -> Option<Reason> {
+    let is_id = |&v: &u32| (v as usize) < mesh.count();
+    adjacency_row(mesh)
+        .or((!given.iter().all(is_id)).then_some(Reason::row(14)))
+        .or(is_short.then_some(Reason::row(8)))
+}
+
+/// A search: its ends, and the lengths of order and queue.
+#[derive(Clone, Copy)]
+struct Search {
+    from: u32,
+    to: u32,
+    places: [usize; 2],
+}
+
+impl Search {
+    fn answer(&self, mesh: &Flat) -> Result<[u32; 2], Reason> {
+        let is_short = self.places.iter().any(|&length| length < longest(mesh));
+        match search_row(mesh, &[self.from, self.to], is_short) {
+            Some(reason) => Err(reason),
+            None => {
+                let lists = mesh.lists().neighbors;
+                steps_beside(self.from as usize, self.to as usize, &lists)
+            }
+        }
+    }
+}
+
+/// A call that lists vertices: the one that it begins at, the number of steps, and the lengths of order
+/// and list.
+#[derive(Clone, Copy)]
+struct Within {
+    vertex: u32,
+    steps: usize,
+    places: [usize; 2],
+}
+
+impl Within {
+    fn answer(&self, mesh: &Flat) -> Result<Vec<u32>, Reason> {
+        let [order, list] = self.places;
+        let is_short = order < longest(mesh) || list < mesh.count();
+        match search_row(mesh, &[self.vertex], is_short) {
+            Some(reason) => Err(reason),
+            None => {
+                let lists = mesh.lists().neighbors;
+                Ok(within_beside(self.vertex as usize, self.steps, &lists))
+            }
+        }
+    }
+}
+
+/// A mesh, and how many calls follow.
+fn searched_record(mesh: &Flat, calls: usize) -> Record {
+    let head = Record::default().lengths(&needed(mesh, &[])[..3]);
+    mesh_words(head, mesh).length(calls)
+}
+
+/// Searches of a mesh, with their answers.
+fn searches(mesh: &Flat, calls: &[(Search, Result<[u32; 2], Reason>)]) -> Record {
+    let record = searched_record(mesh, calls.len());
+    calls.iter().fold(record, |record, (search, answer)| {
+        record
+            .call()
+            .numbers(&[search.from, search.to])
+            .lengths(&search.places)
+            .found(*answer)
+    })
+}
+
+/// Lists of vertices of a mesh, with their answers.
+fn lists_within(mesh: &Flat, calls: &[(Within, Result<Vec<u32>, Reason>)]) -> Record {
+    let record = searched_record(mesh, calls.len());
+    calls.iter().fold(record, |record, (within, answer)| {
+        let filled = answer.as_ref().map_or(&[][..], Vec::as_slice);
+        let counted = answer.as_ref().map(|list| list.len() as u32);
+        record
+            .call()
+            .number(within.vertex)
+            .lengths(&[within.steps])
+            .lengths(&within.places)
+            .counted(WITHIN, counted.map_err(|reason| *reason))
+            .numbers(&over(U32_BEFORE, within.places[1], filled))
+    })
+}
+
+/// Searches of a mesh with the answers that are read beside it.
+fn searches_beside(mesh: &Flat, calls: Vec<Search>) -> Record {
+    let answered = |search: Search| (search, search.answer(mesh));
+    searches(mesh, &calls.into_iter().map(answered).collect::<Vec<_>>())
+}
+
+fn lists_within_beside(mesh: &Flat, calls: Vec<Within>) -> Record {
+    let answered = |within: Within| (within, within.answer(mesh));
+    lists_within(mesh, &calls.into_iter().map(answered).collect::<Vec<_>>())
+}
+
+/// Neighbour lists by hand: a path of four vertices, and one apart that lists itself; lists with repeats
+/// and an own vertex; steps that lead one way alone.
+const ISLAND: [&[u16]; 5] = [&[1], &[2, 0], &[3, 1], &[2], &[4]];
+const REPEATS: [&[u16]; 3] = [&[2, 2, 1], &[0], &[1, 1, 2]];
+const ONE_WAY: [&[u16]; 4] = [&[1, 2], &[0], &[3], &[]];
+
+/// The first of these meshes, with starts that fall at 2.
+fn falling() -> Flat {
+    let mut mesh = searched(&ISLAND);
+    fall(&mut mesh.starts, 2);
+    mesh
+}
+
+/// Searches worked out by hand: from, to, the lengths of order and queue, the answer.
+fn searches_by_hand() -> Records {
+    let [room, vertex, no_path] = [8, 14, 15].map(|number| Err(Reason::row(number)));
+    let of = |mesh: &Flat, calls: &[(u32, u32, [usize; 2], Result<[u32; 2], Reason>)]| {
+        let calls = calls.iter().map(|&(from, to, places, answer)| {
+            let search = Search { from, to, places };
+            (search, answer)
+        });
+        searches(mesh, &calls.collect::<Vec<_>>())
+    };
+    vec![
+        of(
+            &searched(&ISLAND),
+            &[
+                (0, 1, [15; 2], Ok([1, 1])),
+                (0, 2, [15; 2], Ok([2, 2])),
+                (0, 3, [15; 2], Ok([3, 4])),
+                (3, 0, [16, 17], Ok([3, 5])),
+                (0, 4, [15; 2], no_path),
+                (4, 0, [15; 2], no_path),
+                (4, 4, [15; 2], Ok([0, 0])),
+                (5, 0, [1; 2], vertex),
+                (0, 5, [15; 2], vertex),
+                (u32::MAX, u32::MAX, [0; 2], vertex),
+                (4, 0, [14, 15], room),
+                (4, 0, [15, 14], room),
+                (4, 4, [14; 2], room),
+            ],
+        ),
+        of(
+            &searched(&REPEATS),
+            &[
+                (0, 1, [9; 2], Ok([1, 3])),
+                (0, 2, [9; 2], Ok([1, 1])),
+                (2, 0, [9; 2], Ok([2, 4])),
+                (2, 2, [9; 2], Ok([0, 0])),
+            ],
+        ),
+        of(
+            &searched(&ONE_WAY),
+            &[
+                (0, 3, [12; 2], Ok([2, 4])),
+                (1, 3, [12; 2], Ok([3, 4])),
+                (3, 0, [12; 2], no_path),
+            ],
+        ),
+        of(&falling(), &[(9, 0, [15; 2], Err(Reason::fall(2)))]),
+        of(
+            &Lattice::new(1).lists.flat(),
+            &[
+                (0, 4, [60; 2], Ok([2, 14])),
+                (0, 9, [60; 2], Ok([3, 34])),
+                (9, 0, [60; 2], Ok([3, 31])),
+                (4, 9, [60; 2], Ok([1, 5])),
+                (3, 3, [60; 2], Ok([0, 0])),
+            ],
+        ),
+    ]
+}
+
+/// Lists of vertices worked out by hand: vertex, steps, the lengths of order and list, the answer.
+fn lists_by_hand() -> Records {
+    type Listed = Result<&'static [u32], Reason>;
+    let [room, vertex] = [8, 14].map(|number| Err(Reason::row(number)));
+    let of = |mesh: &Flat, calls: &[(u32, usize, [usize; 2], Listed)]| {
+        let calls = calls.iter().map(|&(vertex, steps, places, answer)| {
+            let within = Within {
+                vertex,
+                steps,
+                places,
+            };
+            (within, answer.map(<[u32]>::to_vec))
+        });
+        lists_within(mesh, &calls.collect::<Vec<_>>())
+    };
+    vec![
+        of(
+            &searched(&ISLAND),
+            &[
+                (1, 1, [15, 6], Ok(&[1, 2, 0])),
+                (1, 9, [15, 5], Ok(&[1, 2, 0, 3])),
+                (1, 0, [15, 5], Ok(&[1])),
+                (1, usize::MAX, [16, 5], Ok(&[1, 2, 0, 3])),
+                (4, usize::MAX, [15, 5], Ok(&[4])),
+                (5, 1, [0; 2], vertex),
+                (1, 1, [14, 5], room),
+                (1, 0, [15, 4], room),
+                (u32::MAX, 0, [15, 5], vertex),
+            ],
+        ),
+        of(
+            &searched(&REPEATS),
+            &[
+                (0, 1, [9, 3], Ok(&[0, 2, 1])),
+                (2, 1, [9, 3], Ok(&[2, 1])),
+                (2, 2, [9, 3], Ok(&[2, 1, 0])),
+            ],
+        ),
+        of(
+            &searched(&ONE_WAY),
+            &[
+                (0, 1, [12, 4], Ok(&[0, 1, 2])),
+                (1, 2, [12, 4], Ok(&[1, 0, 2])),
+                (3, 9, [12, 4], Ok(&[3])),
+            ],
+        ),
+        of(&falling(), &[(9, 1, [15, 5], Err(Reason::fall(2)))]),
+        of(
+            &Lattice::new(1).lists.flat(),
+            &[
+                (4, 1, [60, 12], Ok(&[4, 2, 3, 5, 8, 9])),
+                (4, 2, [60, 12], Ok(&[4, 2, 3, 5, 8, 9, 0, 1, 7, 10, 11])),
+                (4, 3, [60, 12], Ok(&[4, 2, 3, 5, 8, 9, 0, 1, 7, 10, 11, 6])),
+            ],
+        ),
+    ]
+}
+
+/// Meshes, and the vertices at which a call begins: all of the first lattice, three of the second, both
+/// ends of a path and one between.
+fn begun_at() -> [(Flat, Vec<u32>); 3] {
+    let lattice = |frequency| Lattice::new(frequency).lists.flat();
+    [
+        (lattice(1), (0..12).collect()),
+        (lattice(2), vec![0, 13, 41]),
+        (path(PATH as u16), vec![0, 17, PATH as u32 - 1]),
+    ]
+}
+
+/// Random meshes, every second one damaged, their positions zeros but for what is damaged; then the
+/// starts by hand.
+fn searched_meshes(random: &mut Random) -> Vec<Flat> {
+    let mut drawn = |at: usize| {
+        let mut mesh = small(random, 20, 200).flat();
+        mesh.positions.fill(0.0);
+        if at % 2 == 1 {
+            damage(random, &mut mesh);
+        }
+        mesh
+    };
+    let drawn: Vec<Flat> = (0..SEARCHED).map(&mut drawn).collect();
+    let by_hand = by_hand().map(|(mesh, _)| mesh);
+    drawn.into_iter().chain(by_hand).collect()
+}
+
+/// A vertex, or one time in twelve no id: the count, or the greatest number.
+fn given(random: &mut Random, count: usize) -> u32 {
+    match random.below(24) {
+        0 => count as u32,
+        1 => u32::MAX,
+        _ => random.below(count.max(1) as u64) as u32,
+    }
+}
+
+/// Searches by hand; of lattices and a path to every vertex; of random meshes, one in eight of them from
+/// a vertex to itself.
+fn steps_between() -> Records {
+    let mut records = searches_by_hand();
+    records.extend(begun_at().map(|(mesh, vertices)| {
+        let places = [longest(&mesh); 2];
+        let all = 0..mesh.count() as u32;
+        let calls = vertices.iter().flat_map(|&from| {
+            let to_all = all.clone();
+            to_all.map(move |to| Search { from, to, places })
+        });
+        searches_beside(&mesh, calls.collect())
+    }));
+    let mut random = Random::new(114);
+    for mesh in searched_meshes(&mut random) {
+        let mut search = || {
+            let [from, to] = [0; 2].map(|_| given(&mut random, mesh.count()));
+            let to = if random.below(8) == 0 { from } else { to };
+            let places = [0; 2].map(|_| about(&mut random, longest(&mesh)));
+            Search { from, to, places }
+        };
+        let calls = (0..SEARCHES).map(|_| search()).collect();
+        records.push(searches_beside(&mesh, calls));
+    }
+    records
+}
+
+/// Lists by hand; of lattices and a path with every number of steps up to the last that adds a vertex,
+/// and one more; of random meshes with few steps, and with the greatest number.
+fn vertices_within() -> Records {
+    let mut records = lists_by_hand();
+    records.extend(begun_at().map(|(mesh, vertices)| {
+        let places = [longest(&mesh), mesh.count()];
+        let lists = mesh.lists().neighbors;
+        let calls = vertices.iter().flat_map(|&vertex| {
+            let lengths = shortest_paths(vertex as usize, &lists);
+            let farthest = lengths.into_iter().flatten().max().unwrap_or(0);
+            (0..=farthest + 1).map(move |steps| Within {
+                vertex,
+                steps,
+                places,
+            })
+        });
+        lists_within_beside(&mesh, calls.collect())
+    }));
+    let mut random = Random::new(115);
+    for mesh in searched_meshes(&mut random) {
+        let mut within = || {
+            let vertex = given(&mut random, mesh.count());
+            let steps = [0, 1, 1, 2, 2, 3, 4, usize::MAX][random.below(8) as usize];
+            let places = [longest(&mesh), mesh.count()].map(|most| about(&mut random, most));
+            Within {
+                vertex,
+                steps,
+                places,
+            }
+        };
+        let calls = (0..SEARCHES).map(|_| within()).collect();
+        records.push(lists_within_beside(&mesh, calls));
+    }
     records
 }
 

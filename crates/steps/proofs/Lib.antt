@@ -1,0 +1,9 @@
+pub mod Levels
+pub mod Paths
+pub mod Whole
+pub mod Meeting
+pub mod Turns
+pub mod Outcome
+pub mod Calls
+pub mod Cases
+pub mod Mutual

@@ -1,0 +1,3 @@
+pub mod Steps
+pub mod Outcomes
+pub mod Laws
