@@ -489,6 +489,85 @@ static mesh greatest_mesh(draw *d) { return path_mesh(d, VERTEX_MAX + 1 - below(
 
 mesh long_path(draw *d) { return path_mesh(d, 200 + below(d, 200)); }
 
+static void append_alone(draw *d, mesh *m) {
+    append_position(m, any_position(d));
+    append_start(m);
+}
+
+/* Vertices behind those that there are, their neighbours among themselves. */
+static void append_part(draw *d, mesh *m) {
+    uint32_t before = (uint32_t)(m->positions_length / 3), kind = below(d, 8);
+    uint32_t count = kind < 2 ? 1 : 2 + below(d, 7);
+    const lattice *l = lattice_of(1 + below(d, 2));
+    if (kind == 2)
+        count = (uint32_t)l->vertices;
+    for (uint32_t v = 0; v < count; v++) {
+        switch (kind) {
+        case 0: break; /* alone */
+        case 1: append_entry(m, before); break;
+        case 2:
+            for (size_t e = l->starts[v]; e < l->starts[v + 1]; e++)
+                append_entry(m, before + l->entries[e]);
+            break;
+        case 3: /* a ring */
+            append_entry(m, before + (v + 1) % count);
+            append_entry(m, before + (v + count - 1) % count);
+            break;
+        case 4: /* a star */
+            for (uint32_t i = 1; v == 0 && i < count; i++)
+                append_entry(m, before + i);
+            if (v > 0)
+                append_entry(m, before);
+            break;
+        case 5: /* a path downwards */
+            if (v > 0)
+                append_entry(m, before + v - 1);
+            break;
+        default:
+            for (uint32_t i = below(d, 4); i > 0; i--)
+                append_entry(m, before + below(d, count));
+            break;
+        }
+        append_alone(d, m);
+    }
+}
+
+/* Gives each vertex another id; its list keeps its order. */
+static void mix_ids(draw *d, mesh *m) {
+    static uint32_t id_of[VERTEX_MAX], starts[STARTS_ROOM];
+    static uint16_t entries[ENTRIES_ROOM];
+    uint32_t count = (uint32_t)(m->positions_length / 3);
+    any_permutation(d, id_of, count);
+    memcpy(starts, m->starts, m->starts_length * sizeof *starts);
+    memcpy(entries, m->entries, m->entries_length * sizeof *entries);
+    for (uint32_t v = 0; v < count; v++)
+        m->starts[id_of[v] + 1] = starts[v + 1] - starts[v];
+    for (uint32_t v = 0; v < count; v++)
+        m->starts[v + 1] += m->starts[v];
+    for (uint32_t v = 0; v < count; v++)
+        for (uint32_t e = starts[v], at = m->starts[id_of[v]]; e < starts[v + 1]; e++, at++)
+            m->entries[at] = (uint16_t)id_of[entries[e]];
+}
+
+mesh island_mesh(draw *d) {
+    mesh m = room();
+    append_start(&m);
+    for (uint32_t i = below(d, 6); i > 0; i--)
+        append_part(d, &m);
+    for (uint32_t i = one_in(d, 12) ? 100 + below(d, 60) : 0; i > 0; i--)
+        append_alone(d, &m);
+    if (m.positions_length == 0)
+        append_part(d, &m);
+    if (one_in(d, 2))
+        mix_ids(d, &m);
+    if (one_in(d, 4) && m.entries_length > 0)
+        m.entries[below(d, (uint32_t)m.entries_length)] =
+            (uint16_t)below(d, (uint32_t)(m.positions_length / 3));
+    if (one_in(d, 8))
+        append_alone(d, &m);
+    return m;
+}
+
 /* Any slices at all, of the fuzzer's bytes as long as they last. */
 static mesh any_slices(draw *d) {
     mesh m = room();

@@ -103,6 +103,11 @@ mesh any_mesh(draw *d);
 /* A path of some hundred vertices in the same rooms, one way or both ways, cut at times. */
 mesh long_path(draw *d);
 
+/* A mesh of several parts side by side in the same rooms: vertices alone, rings, stars, lattices,
+ * paths one way, random lists; at times the ids are mixed, an entry leads to another part, or the
+ * last id is alone. */
+mesh island_mesh(draw *d);
+
 /* A mesh in the same rooms, and so many directions to ask for in it: three to five vertices, each a
  * neighbour of all others, at small numbers and zeros of both signs. Two of them are so close that
  * the square of their distance is about the least double above 0, or all stand on a line, one of

@@ -547,34 +547,240 @@ static void call_walk(draw *d, const mesh *drawn) {
     count_starts(of, &e, answer.refusal, answer.index);
 }
 
-/* ---- steps between vertices, and lists of vertices */
-
-/* Meshes of so many vertices have steps worked out a second time. */
+/* Meshes of so many vertices have ways and steps worked out a second time. */
 enum { FEW_VERTICES = 64 };
 
-/* The steps from a vertex to each of a few, UNREACHED where no path leads: every entry may shorten
- * a way, until none does. */
-static void steps_to_all(const mesh *m, uint32_t from, uint32_t *steps) {
+/* The steps from a vertex to each of a few, by those alone that `entered` has where it isn't NULL;
+ * UNREACHED where no such path leads. Every entry may shorten a way, until none does. */
+static void steps_among(const mesh *m, uint32_t from, const bool *entered, uint32_t *steps) {
     size_t count = m->positions_length / 3;
     for (size_t v = 0; v < count; v++)
         steps[v] = v == from ? 0 : UNREACHED;
     for (bool shortened = true; shortened;) {
         shortened = false;
         for (size_t v = 0; v < count; v++)
-            for (size_t e = m->starts[v]; steps[v] != UNREACHED && e < m->starts[v + 1]; e++)
-                if (steps[v] + 1 < steps[m->entries[e]]) {
-                    steps[m->entries[e]] = steps[v] + 1;
+            for (size_t e = m->starts[v]; steps[v] != UNREACHED && e < m->starts[v + 1]; e++) {
+                uint32_t next = m->entries[e];
+                if ((!entered || entered[next]) && steps[v] + 1 < steps[next]) {
+                    steps[next] = steps[v] + 1;
                     shortened = true;
                 }
+            }
     }
 }
 
-static bool has_entry(const mesh *m, uint32_t vertex, uint32_t id) {
-    for (size_t e = m->starts[vertex]; e < m->starts[vertex + 1]; e++)
-        if (m->entries[e] == id)
-            return true;
-    return false;
+static void steps_to_all(const mesh *m, uint32_t from, uint32_t *steps) {
+    steps_among(m, from, NULL, steps);
 }
+
+/* ---- the walk over all islands */
+
+/* What an accepted walk over all islands is read by: where each island ends, its own start the end
+ * of the one before. */
+typedef struct numbering {
+    const uint32_t *order, *queue, *starts;
+    uint32_t islands, count;
+} numbering;
+
+static uint32_t island_end(const numbering *n, uint32_t island) {
+    return island + 1 < n->islands ? n->starts[island + 1] : n->count;
+}
+
+static uint32_t top_of(uint32_t *above, uint32_t vertex) {
+    for (; above[vertex] != vertex; vertex = above[vertex])
+        above[vertex] = above[above[vertex]]; /* ways to the top stay short */
+    return vertex;
+}
+
+/* Puts the vertices of a mesh into pieces: each entry joins two, whichever way it goes. Gives how
+ * many pieces there are; those with one top are one piece. */
+static uint32_t join_pieces(const mesh *m, uint32_t *above) {
+    uint32_t count = (uint32_t)(m->positions_length / 3), pieces = count;
+    for (uint32_t v = 0; v < count; v++)
+        above[v] = v;
+    for (uint32_t v = 0; v < count; v++)
+        for (size_t e = m->starts[v]; e < m->starts[v + 1]; e++) {
+            uint32_t one = top_of(above, v), other = top_of(above, m->entries[e]);
+            pieces -= one != other;
+            above[one] = other;
+        }
+    return pieces;
+}
+
+static bool is_mutual(const mesh *m) {
+    for (uint32_t v = 0; v + 1 < m->starts_length; v++)
+        for (size_t e = m->starts[v]; e < m->starts[v + 1]; e++)
+            if (!has_entry(m, m->entries[e], v))
+                return false;
+    return true;
+}
+
+/* Of a few vertices each island has those to which ways lead from its root, by ids of no earlier
+ * one alone, the nearer ones first. */
+static void hold_ways(entry of, const mesh *m, const numbering *n) {
+    uint32_t steps[FEW_VERTICES];
+    bool entered[FEW_VERTICES], those = true, nearer_first = true;
+    for (uint32_t island = 0; island < n->islands; island++) {
+        uint32_t start = n->starts[island], end = island_end(n, island);
+        for (uint32_t v = 0; v < n->count; v++)
+            entered[v] = n->order[v] >= start;
+        steps_among(m, n->queue[start], entered, steps);
+        for (uint32_t i = start; i < n->count; i++)
+            those &= (steps[n->queue[i]] != UNREACHED) == (i < end);
+        for (uint32_t i = start + 1; i < end; i++)
+            nearer_first &= steps[n->queue[i - 1]] <= steps[n->queue[i]];
+    }
+    hold(of, those, "islands of those that their roots lead to");
+    hold(of, nearer_first, "the nearer ones first");
+}
+
+static void hold_islands(entry of, const mesh *m, const numbering *n) {
+    static uint32_t above[VERTEX_MAX];
+    bool inverse = true, ascend = n->starts[0] == 0, lowest = true, one_piece = true;
+    for (uint32_t i = 0; i < n->count; i++)
+        inverse &= n->queue[i] < n->count && n->order[n->queue[i]] == i;
+    hold(of, inverse, "queue and order are inverse");
+    for (uint32_t island = 0; island < n->islands; island++)
+        ascend &= n->starts[island] < island_end(n, island) && n->starts[island] < n->count;
+    hold(of, ascend, "starts that ascend from 0 and stay below the count");
+    uint32_t least = n->count;
+    for (uint32_t island = n->islands; island-- > 0;) {
+        for (uint32_t i = n->starts[island]; i < island_end(n, island); i++)
+            least = n->queue[i] < least ? n->queue[i] : least;
+        lowest &= n->queue[n->starts[island]] == least;
+    }
+    hold(of, lowest, "roots that are the lowest ids left");
+    uint32_t pieces = join_pieces(m, above);
+    for (uint32_t island = 0; island < n->islands; island++)
+        for (uint32_t i = n->starts[island]; i < island_end(n, island); i++)
+            one_piece &= top_of(above, n->queue[i]) == top_of(above, n->queue[n->starts[island]]);
+    hold(of, one_piece, "islands within one piece each");
+    hold(of, is_mutual(m) ? n->islands == pieces : n->islands >= pieces,
+         "as many islands as pieces where neighbours are mutual");
+    if (n->count <= FEW_VERTICES)
+        hold_ways(of, m, n);
+}
+
+/* The ordinary walk over the same mesh: refused by 13 exactly where there are several islands. It
+ * numbers the first of them likewise, and no other vertex. */
+static void hold_beside_walk(draw *d, entry of, const mesh *m, const numbering *n,
+                             uint32_t entries_read) {
+    enum { BESIDE_ORDER = 6, BESIDE_QUEUE = 7 };
+    lent order = lend(BESIDE_ORDER, any_garbage(d), n->count, sizeof(uint32_t), one_in(d, 2));
+    lent queue = lend(BESIDE_QUEUE, any_garbage(d), n->count, sizeof(uint32_t), one_in(d, 2));
+    koshirga_walk_answer walk =
+        koshirga_walk(m->positions, m->positions_length, m->starts, m->starts_length, m->entries,
+                      m->entries_length, order.at, n->count, queue.at, n->count);
+    count(ENTRY_walk, walk.refusal);
+    hold(of, walk.refusal == (n->islands > 1 ? 13 : 0), "13 where there are several islands");
+    hold(of, walk.entries_read == (walk.refusal ? 0 : entries_read), "the walk's entries");
+    uint32_t first_island = island_end(n, 0);
+    const uint32_t *places = order.at;
+    bool same_order = true;
+    for (uint32_t v = 0; v < n->count; v++)
+        same_order &= places[v] == (n->order[v] < first_island ? n->order[v] : UNREACHED);
+    hold(of, same_order, "the walk's order of the first island");
+    hold(of, memcmp(queue.at, n->queue, first_island * sizeof *n->queue) == 0,
+         "the walk's queue of the first island");
+}
+
+/* Counts which of the slices is too short. */
+static void count_numbering_room(entry of, const mesh *m, const size_t *lengths) {
+    static uint32_t above[VERTEX_MAX];
+    size_t count = m->positions_length / 3;
+    bool order_fits = lengths[0] >= count, queue_fits = lengths[1] >= count;
+    bool starts_fit = lengths[2] >= count;
+    if (lengths[0] + 1 == count && queue_fits && starts_fit)
+        count_way(of, WAY_NUMBERS_SHORT);
+    if (lengths[1] + 1 == count && order_fits && starts_fit)
+        count_way(of, WAY_IDS_SHORT);
+    if (lengths[2] + 1 == count && order_fits && queue_fits)
+        count_way(of, WAY_STARTS_SHORT);
+    if (!starts_fit && order_fits && queue_fits && is_mutual(m) &&
+        lengths[2] >= join_pieces(m, above))
+        count_way(of, WAY_STARTS_AN_ISLAND);
+}
+
+/* Counts what islands were found, and in what slices. */
+static void count_islands(entry of, const mesh *m, const numbering *n, const size_t *lengths) {
+    uint32_t last_start = n->starts[n->islands - 1], mixed = 0, earlier = 0, not_back = 0;
+    bool mutual = is_mutual(m);
+    for (uint32_t island = 0; island < n->islands; island++) {
+        uint32_t start = n->starts[island], end = island_end(n, island);
+        for (uint32_t i = start; i < end; i++) {
+            uint32_t v = n->queue[i];
+            mixed += v >= n->queue[start] + (end - start);
+            for (size_t e = m->starts[v]; e < m->starts[v + 1]; e++)
+                earlier += n->order[m->entries[e]] < start;
+        }
+        uint32_t last = n->queue[end - 1];
+        not_back += end - start > 1 && m->starts[last] == m->starts[last + 1];
+    }
+    if (n->islands == 1)
+        count_way(of, n->count == 1 ? WAY_ONE_VERTEX : WAY_ONE_ISLAND);
+    if (n->islands > 1 && n->islands == n->count)
+        count_way(of, m->entries_length ? WAY_EACH_ALONE : WAY_NO_ENTRIES);
+    if (n->islands > 100)
+        count_way(of, WAY_MANY_ISLANDS);
+    if (n->islands > 1 && island_end(n, 0) == 1)
+        count_way(of, WAY_FIRST_ALONE);
+    if (n->islands > 1 && last_start + 1 == n->count && n->queue[last_start] == last_start)
+        count_way(of, WAY_LAST_ALONE);
+    if (n->islands > 1 && mutual)
+        count_way(of, mixed ? WAY_MUTUAL_MIXED : WAY_MUTUAL_IN_ROW);
+    if (earlier)
+        count_way(of, WAY_NAMES_EARLIER);
+    if (not_back)
+        count_way(of, WAY_NOT_BACK);
+    if (mesh_row(m, true).refusal == 5)
+        count_way(of, WAY_ISLANDS_ROW_5);
+    if (n->islands < n->count)
+        count_way(of, WAY_STARTS_BEHIND);
+    if (lengths[0] > n->count && lengths[1] > n->count && lengths[2] > n->count)
+        count_way(of, WAY_NUMBERING_SURPLUS);
+}
+
+static void call_walk_islands(draw *d, const mesh *drawn) {
+    mesh e, m = lend_mesh(d, drawn, &e);
+    bool structs = by_structs(d);
+    entry of = structs ? ENTRY_walk_islands_in : ENTRY_walk_islands;
+    size_t vertices = m.positions_length / 3, lengths[3];
+    lent slices[3];
+    for (int i = 0; i < 3; i++) {
+        lengths[i] = any_length(d, vertices);
+        slices[i] = lend(3 + i, any_garbage(d), lengths[i], sizeof(uint32_t), one_in(d, 2));
+    }
+    koshirga_islands_answer expected =
+        expected_walk_islands(&e, slices[0].expected, lengths[0], slices[1].expected, lengths[1],
+                              slices[2].expected, lengths[2]);
+    koshirga_islands_answer answer =
+        structs ? koshirga_walk_islands_in(mesh_struct(&m, one_in(d, 2)), slices[0].at, lengths[0],
+                                           slices[1].at, lengths[1], slices[2].at, lengths[2])
+                : koshirga_walk_islands(m.positions, m.positions_length, m.starts, m.starts_length,
+                                        m.entries, m.entries_length, slices[0].at, lengths[0],
+                                        slices[1].at, lengths[1], slices[2].at, lengths[2]);
+    hold_row(of, expected.refusal, answer.refusal);
+    hold_index(of, answer.refusal, expected.index, answer.index);
+    hold(of, expected.islands == answer.islands, "the count of islands");
+    hold(of, expected.entries_read == answer.entries_read, "the count of entries");
+    hold_mesh(of);
+    hold(of, as_expected(3), "the order");
+    hold(of, as_expected(4), "the queue");
+    hold(of, as_expected(5), "the island starts");
+    count(of, answer.refusal);
+    count_starts(of, &e, answer.refusal, answer.index);
+    if (answer.refusal == 8)
+        count_numbering_room(of, &e, lengths);
+    if (answer.refusal)
+        return;
+    hold(of, answer.entries_read == m.entries_length, "all entries are read");
+    numbering n = {slices[0].at, slices[1].at, slices[2].at, answer.islands, (uint32_t)vertices};
+    hold_islands(of, &m, &n);
+    hold_beside_walk(d, of, &m, &n, answer.entries_read);
+    count_islands(of, &e, &n, lengths);
+}
+
+/* ---- steps between vertices, and lists of vertices */
 
 /* Counts how a given vertex was refused. */
 static void count_vertex(entry of, uint32_t vertex, size_t count) {
@@ -2074,6 +2280,7 @@ static void meshes(draw *d) {
     if (one_in(d, 16))
         damage_mesh(d, &m);
     call_walk(d, &m);
+    call_walk_islands(d, &m);
     call_steps_between(d, &m);
     call_vertices_within(d, &m);
     call_mark_ascending(d, &m);
@@ -2103,6 +2310,17 @@ static void meshes(draw *d) {
         if (q.positions_length == 0 || q.side != q.built_side || q.grid.cell_starts_length == 0 ||
             q.grid.triangle_starts_length == 0)
             return; /* nothing is left to be damaged */
+    }
+}
+
+/* Meshes of several parts, each walked twice. */
+static void islands(draw *d) {
+    for (int i = 0; i < 3; i++) {
+        mesh m = island_mesh(d);
+        if (one_in(d, 8))
+            damage_mesh(d, &m);
+        call_walk_islands(d, &m);
+        call_walk_islands(d, &m);
     }
 }
 
@@ -2170,6 +2388,7 @@ int LLVMFuzzerTestOneInput(const uint8_t *bytes, size_t length) {
     case 13:
     case 14: repeat(packings, 2, &d); break;
     case 15: searches(&d); break;
+    case 16: islands(&d); break;
     default: meshes(&d); break;
     }
     tally_input();

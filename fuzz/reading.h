@@ -140,11 +140,26 @@
  * 129. a search gives no index
  * 130. a search tests row 5
  * 131. a list of vertices ascends
- * 132. 15 carries the count of entries */
+ * 132. 15 carries the count of entries
+ * 133. the root is the highest id without a number
+ * 134. an island's number stands for its start
+ * 135. an island's start is its root's old id
+ * 136. a closing start stands behind the last island's
+ * 137. places behind the islands' starts are cleared
+ * 138. entries of the last island alone are counted
+ * 139. the island starts need a place an island
+ * 140. 13 where there are several islands
+ * 141. the walk over all islands tests row 5
+ * 142. it gives no index
+ * 143. it takes neighbours for mutual
+ * 144. each island is numbered from 0
+ * 145. it needs as many places as scratch of a search
+ * 146. repeats in a list are counted once in it
+ * 147. the first island isn't counted */
 #ifndef MISREAD
 #define MISREAD 0
 #endif
-enum { MISREADINGS = 132 };
+enum { MISREADINGS = 147 };
 
 enum { FREQUENCY_MAX = 80, VERTEX_MAX = 65536, LIST_MAX = 32, MARGIN_MAX = 3, ROWS = 20 };
 
@@ -254,8 +269,15 @@ koshirga_vector3 position_of(const double *positions, size_t v);
  * is asked for; 0 where none does. With row 18 the place of the start that falls, else 0. */
 koshirga_verdict_answer mesh_row(const mesh *m, bool with_row_5);
 
+/* Whether a vertex's list has an id, in a mesh that passes its rows. */
+bool has_entry(const mesh *m, size_t vertex, size_t id);
+
 koshirga_walk_answer expected_walk(const mesh *m, uint32_t *order, size_t order_length,
                                    uint32_t *queue, size_t queue_length);
+
+koshirga_islands_answer expected_walk_islands(const mesh *m, uint32_t *order, size_t order_length,
+                                              uint32_t *queue, size_t queue_length,
+                                              uint32_t *island_starts, size_t island_starts_length);
 
 /* The walk from a vertex to its end, in a mesh that passes its rows: the ids in its order, and for
  * each vertex the steps that lead there, UNREACHED for others. Gives how many are reached. */

@@ -16,7 +16,7 @@ static const char *const NAMES[ENTRIES] = {ENTRY_POINTS(NAME)};
 /* The calls whose ways are counted, as columns. Which of them can meet a way: a bit each, the first
  * the lowest. */
 enum {
-    COLUMNS = 14,
+    COLUMNS = 15,
     MINIMUM = 1,
     CONVERSION = 2,
     WEIGHTS = 4,
@@ -30,8 +30,9 @@ enum {
     PACKING = 2048,
     STEPPING = 4096,
     LISTING = 8192,
+    ISLANDS = 16384,
     SEARCHES = STEPPING | LISTING,
-    WHOLE = WALK | RENUMBERING | MARKING | BUILDER | SEARCHES,
+    WHOLE = WALK | RENUMBERING | MARKING | BUILDER | SEARCHES | ISLANDS,
     QUERIES = 256 | LOCATION,
     RECORDS = QUERIES | PACKING,
     PAIRS = BUILDER | RECORDS,
@@ -42,10 +43,10 @@ enum {
     MINIMA = DRAWN | LOCATION
 };
 static const entry WITH_WAYS[COLUMNS] = {
-    ENTRY_minimum_number, ENTRY_to_i64,         ENTRY_least_weight,   ENTRY_lattice,
-    ENTRY_walk,           ENTRY_renumber,       ENTRY_mark_ascending, ENTRY_build_grid,
-    ENTRY_grid_nearest,   ENTRY_grid_locate,    ENTRY_to_f32,         ENTRY_pack,
-    ENTRY_steps_between,  ENTRY_vertices_within};
+    ENTRY_minimum_number, ENTRY_to_i64,          ENTRY_least_weight,   ENTRY_lattice,
+    ENTRY_walk,           ENTRY_renumber,        ENTRY_mark_ascending, ENTRY_build_grid,
+    ENTRY_grid_nearest,   ENTRY_grid_locate,     ENTRY_to_f32,         ENTRY_pack,
+    ENTRY_steps_between,  ENTRY_vertices_within, ENTRY_walk_islands};
 #define WAY(name, calls, text) {calls, text},
 static const struct {
     unsigned calls;
@@ -227,7 +228,8 @@ static void print_tables(double seconds) {
     print_ways("minima", MINIMA, WAY_MINIMA, WAY_ROUNDINGS);
     print_ways("rounded to binary32", ROUNDING, WAY_ROUNDINGS, WAY_PACKINGS);
     print_ways("packed (0: accepted)", PACKING, WAY_PACKINGS, WAY_SEARCHES);
-    print_ways("steps and lists (0: accepted)", SEARCHES, WAY_SEARCHES, WAY_COUNT);
+    print_ways("steps and lists (0: accepted)", SEARCHES, WAY_SEARCHES, WAY_ISLANDS);
+    print_ways("islands (0: accepted)", ISLANDS, WAY_ISLANDS, WAY_COUNT);
     int frequencies = 0;
     for (int n = 1; n <= FREQUENCY_MAX; n++)
         frequencies += built[n];

@@ -12,10 +12,11 @@
     X(total_cmp) X(rank) X(minimum_number) X(floor) X(ceil) X(to_i64) X(to_f32) X(mul_add)        \
     X(sqrt) X(sqrt_by_digits) X(dot) X(cross) X(minus) X(plus) X(scale) X(divide)                 \
     X(norm_squared) X(norm) X(normalize) X(direction) X(projected_barycentric) X(least_weight)    \
-    X(walk) X(steps_between) X(vertices_within) X(renumber) X(mark_ascending) X(choose_face)      \
-    X(analytic_locate) X(analytic_nearest) X(lattice) X(build_grid) X(grid_nearest)               \
-    X(grid_locate) X(pack) X(mark_ascending_of) X(walk_mesh) X(steps_between_in)                  \
-    X(vertices_within_in) X(build_grid_of) X(nearest_in) X(locate_in) X(pack_grid)
+    X(walk) X(walk_islands) X(steps_between) X(vertices_within) X(renumber) X(mark_ascending)     \
+    X(choose_face) X(analytic_locate) X(analytic_nearest) X(lattice) X(build_grid)                \
+    X(grid_nearest) X(grid_locate) X(pack) X(mark_ascending_of) X(walk_mesh) X(walk_islands_in)   \
+    X(steps_between_in) X(vertices_within_in) X(build_grid_of) X(nearest_in) X(locate_in)         \
+    X(pack_grid)
 
 #define ENTRY(name) ENTRY_##name,
 typedef enum entry { ENTRY_POINTS(ENTRY) ENTRIES } entry;
@@ -286,6 +287,28 @@ typedef enum entry { ENTRY_POINTS(ENTRY) ENTRIES } entry;
     X(ROOM_BEHIND, LISTING, "0: places below the count are left")                                  \
     X(SHORT_LIST, LISTING, "0: a list that is shorter than scratch")
 
+/* The same for the walk over all islands. An island is in a row where its ids are those from its
+ * root on. */
+#define ISLAND_WAYS(X)                                                                             \
+    X(NUMBERS_SHORT, ISLANDS, "8: the order alone, one place too short")                           \
+    X(IDS_SHORT, ISLANDS, "8: the queue alone, one place too short")                               \
+    X(STARTS_SHORT, ISLANDS, "8: the starts alone, one place too short")                           \
+    X(STARTS_AN_ISLAND, ISLANDS, "8: the starts alone, a place an island")                         \
+    X(ONE_VERTEX, ISLANDS, "0: one vertex")                                                        \
+    X(ONE_ISLAND, ISLANDS, "0: one island of several vertices")                                    \
+    X(NO_ENTRIES, ISLANDS, "0: several vertices and no entry")                                     \
+    X(EACH_ALONE, ISLANDS, "0: each vertex an island, with entries")                               \
+    X(MANY_ISLANDS, ISLANDS, "0: over 100 islands")                                                \
+    X(FIRST_ALONE, ISLANDS, "0: vertex 0 alone, before others")                                    \
+    X(LAST_ALONE, ISLANDS, "0: the last id alone, behind others")                                  \
+    X(MUTUAL_IN_ROW, ISLANDS, "0: mutual, each island in a row")                                   \
+    X(MUTUAL_MIXED, ISLANDS, "0: mutual, an island not in a row")                                  \
+    X(NAMES_EARLIER, ISLANDS, "0: an entry names an earlier island")                               \
+    X(NOT_BACK, ISLANDS, "0: an island doesn't lead back to its root")                             \
+    X(ISLANDS_ROW_5, ISLANDS, "0: a position that 5 refuses")                                      \
+    X(STARTS_BEHIND, ISLANDS, "0: places below the count are left")                                \
+    X(NUMBERING_SURPLUS, ISLANDS, "0: surplus in all three")
+
 #define WAYS(X)                                                                                    \
     START_WAYS(X)                                                                                  \
     PAIR_WAYS(X)                                                                                   \
@@ -294,14 +317,15 @@ typedef enum entry { ENTRY_POINTS(ENTRY) ENTRIES } entry;
     MINIMUM_WAYS(X)                                                                                \
     ROUNDING_WAYS(X)                                                                               \
     PACKING_WAYS(X)                                                                                \
-    SEARCH_WAYS(X)
+    SEARCH_WAYS(X)                                                                                 \
+    ISLAND_WAYS(X)
 
 #define WAY(name, calls, text) WAY_##name,
 typedef enum way { WAYS(WAY) WAY_COUNT } way;
 #undef WAY
 
 /* The first way of the pairs, of the conversions, of the marks, of the minima, of the roundings, of
- * the packings and of the searches. */
+ * the packings, of the searches and of the islands. */
 enum {
     WAY_PAIRS = WAY_FACTOR_NAN,
     WAY_CONVERSIONS = WAY_KEPT,
@@ -309,7 +333,8 @@ enum {
     WAY_MINIMA = WAY_UPPER_ZERO_FIRST,
     WAY_ROUNDINGS = WAY_EXACT,
     WAY_PACKINGS = WAY_NONE_TAKEN,
-    WAY_SEARCHES = WAY_VERTEX_NEXT
+    WAY_SEARCHES = WAY_VERTEX_NEXT,
+    WAY_ISLANDS = WAY_NUMBERS_SHORT
 };
 
 /* The call was answered by this row; 0: accepted. */

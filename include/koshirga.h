@@ -1,9 +1,10 @@
 /* Koshirga: the calls of the archive libc_api.a, which `tools/archive` makes. A whole program
  * that uses them is examples/balloon.c, examples/exporter.c has a mesh from outside, refused and
- * then mended, examples/buffers.c packs two balloons for the graphics card, and examples/spread.c
- * spreads a correction over the points about one; docs/DATASHEET.md says what every call does, step
- * by step. Eight calls at the end take mesh and grid as structs; they are compiled with the
- * caller's code and call the archive's.
+ * then mended, examples/buffers.c packs two balloons for the graphics card, examples/spread.c
+ * spreads a correction over the points about one, and examples/shadow.c finds the islands of a
+ * balloon with a shadowed rear; docs/DATASHEET.md says what every call does, step by step. Nine
+ * calls at the end take mesh and grid as structs; they are compiled with the caller's code and call
+ * the archive's.
  *
  * Every function returns for every argument and keeps no state. All floating-point data is
  * binary64, but for what koshirga_to_f32 returns and for packed positions, which are binary32. Each
@@ -59,7 +60,7 @@
 #include <stdint.h>
 
 #define KOSHIRGA_VERSION_MAJOR 0
-#define KOSHIRGA_VERSION_MINOR 9
+#define KOSHIRGA_VERSION_MINOR 10
 #define KOSHIRGA_VERSION_PATCH 0
 
 #ifdef __cplusplus
@@ -119,7 +120,8 @@ enum koshirga_refusal {
     KOSHIRGA_EMPTY_CELL = 11,
     /* No triangle at the nearest vertex has a least weight above minus infinity. */
     KOSHIRGA_NO_TRIANGLE = 12,
-    /* The walk doesn't reach a vertex: the mesh is in several parts. */
+    /* The walk doesn't reach a vertex: the mesh is in several parts, which koshirga_walk_islands
+     * numbers one behind another. */
     KOSHIRGA_UNREACHED = 13,
     /* A given vertex is not below the vertex count. */
     KOSHIRGA_VERTEX = 14,
@@ -271,12 +273,17 @@ koshirga_weights koshirga_projected_barycentric(koshirga_vector3 p, koshirga_vec
  * are. */
 double koshirga_least_weight(koshirga_weights weights);
 
-/* ---- walk, steps, renumbering and mark */
+/* ---- walks, steps, renumbering and mark */
 
 typedef struct koshirga_walk_answer {
     uint32_t refusal, entries_read;
     size_t index; /* that of row 18 */
 } koshirga_walk_answer;
+
+typedef struct koshirga_islands_answer {
+    uint32_t refusal, islands, entries_read;
+    size_t index; /* that of row 18 */
+} koshirga_islands_answer;
 
 typedef struct koshirga_steps_answer {
     uint32_t refusal, steps, entries_read;
@@ -302,6 +309,28 @@ koshirga_walk_answer koshirga_walk(const double *positions, size_t positions_len
                                    const uint16_t *entries, size_t entries_length,
                                    uint32_t *order, size_t order_length,
                                    uint32_t *queue, size_t queue_length);
+
+/* The walk over a mesh in several islands: breadth first from the lowest id without a number, the
+ * root, and then again until all have one. What one walk numbers is an island, numbered behind the
+ * last: a connected component where neighbours are mutual. Where they aren't, an island is what its
+ * root reaches among the ids without a number, and an entry that names an id of an earlier island
+ * is read and lets nothing enter. order gets the new id at each old one, and queue the old id at
+ * each new one. island_starts gets the first new id of each island, so 0 for the first. The last
+ * island ends at the vertex count, which isn't written; places behind the islands are untouched,
+ * also below the count. islands says how many there are, at least one. Each list is read once, so
+ * that entries_read is the entry count.
+ *
+ * Where vertex 0 reaches all, order, queue and entries_read are those of koshirga_walk, and there
+ * is one island; where there are more, koshirga_walk is refused by row 13, which isn't met here.
+ * Each of the three slices needs a place a vertex, and surplus is untouched. Positions are only
+ * counted: there is no row 5. Rows 2, 3, 17, 18, 3, 4, 8 change nothing. */
+koshirga_islands_answer koshirga_walk_islands(const double *positions, size_t positions_length,
+                                              const uint32_t *starts, size_t starts_length,
+                                              const uint16_t *entries, size_t entries_length,
+                                              uint32_t *order, size_t order_length,
+                                              uint32_t *queue, size_t queue_length,
+                                              uint32_t *island_starts,
+                                              size_t island_starts_length);
 
 /* How many steps lead from one vertex to another, at least. A step goes from a vertex to an id of
  * its neighbour list. Lists need not be mutual: the way back may take another number of steps, or
@@ -606,6 +635,18 @@ static inline koshirga_walk_answer koshirga_walk_mesh(koshirga_mesh mesh, uint32
     return koshirga_walk(mesh.positions, mesh.positions_length, mesh.starts, mesh.starts_length,
                          mesh.entries, mesh.entries_length, order, order_length, queue,
                          queue_length);
+}
+
+/* koshirga_walk_islands in a mesh. */
+static inline koshirga_islands_answer koshirga_walk_islands_in(koshirga_mesh mesh, uint32_t *order,
+                                                               size_t order_length,
+                                                               uint32_t *queue, size_t queue_length,
+                                                               uint32_t *island_starts,
+                                                               size_t island_starts_length) {
+    return koshirga_walk_islands(mesh.positions, mesh.positions_length, mesh.starts,
+                                 mesh.starts_length, mesh.entries, mesh.entries_length, order,
+                                 order_length, queue, queue_length, island_starts,
+                                 island_starts_length);
 }
 
 /* koshirga_steps_between in a mesh. */

@@ -50,6 +50,14 @@ pub struct WalkAnswer {
 }
 
 #[repr(C)]
+pub struct IslandsAnswer {
+    pub refusal: u32,
+    pub islands: u32,
+    pub entries_read: u32,
+    pub index: usize,
+}
+
+#[repr(C)]
 pub struct StepsAnswer {
     pub refusal: u32,
     pub steps: u32,
@@ -138,6 +146,20 @@ unsafe extern "C" {
         queue: *mut u32,
         queue_length: usize,
     ) -> WalkAnswer;
+    fn koshirga_walk_islands(
+        positions: *const f64,
+        positions_length: usize,
+        starts: *const u32,
+        starts_length: usize,
+        entries: *const u16,
+        entries_length: usize,
+        order: *mut u32,
+        order_length: usize,
+        queue: *mut u32,
+        queue_length: usize,
+        island_starts: *mut u32,
+        island_starts_length: usize,
+    ) -> IslandsAnswer;
     fn koshirga_steps_between(
         positions: *const f64,
         positions_length: usize,
@@ -325,6 +347,36 @@ pub fn walk(mesh: Mesh, order: &mut [u32], queue: &mut [u32]) -> WalkAnswer {
             order.len(),
             queue.as_mut_ptr(),
             queue.len(),
+        )
+    }
+}
+
+pub fn walk_islands(
+    mesh: Mesh,
+    order: &mut [u32],
+    queue: &mut [u32],
+    island_starts: &mut [u32],
+) -> IslandsAnswer {
+    let Mesh {
+        positions,
+        starts,
+        entries,
+    } = mesh;
+    // Safe: pointers and lengths are of slices, and those written are lent alone.
+    unsafe {
+        koshirga_walk_islands(
+            positions.as_ptr(),
+            positions.len(),
+            starts.as_ptr(),
+            starts.len(),
+            entries.as_ptr(),
+            entries.len(),
+            order.as_mut_ptr(),
+            order.len(),
+            queue.as_mut_ptr(),
+            queue.len(),
+            island_starts.as_mut_ptr(),
+            island_starts.len(),
         )
     }
 }
@@ -731,6 +783,7 @@ pub mod tests {
         }
         same!("conversion", ConversionAnswer, whole, how);
         same!("walk", WalkAnswer, refusal, entries_read, index);
+        same!("islands", IslandsAnswer, islands, entries_read, index);
         same!("steps", StepsAnswer, refusal, steps, entries_read, index);
         same!("within", WithinAnswer, refusal, vertices, index);
         same!("verdict", VerdictAnswer, refusal, index);

@@ -45,7 +45,8 @@ pub use grid::{build_grid, Built, FaceGrid, Grid, GridMut, Located, Nearest, Set
 pub use lattice::{lattice_geometry, LatticeGeometry};
 pub use mesh::{
     apply_vertex_permutation, bfs_vertex_permutation, mark_ascending, steps_between,
-    vertices_within, Mesh, MeshData, MeshMut, Scratch, Steps, Walk,
+    vertices_within, walk_islands, IslandCount, IslandWalk, Mesh, MeshData, MeshMut, Scratch,
+    Steps, Walk,
 };
 pub use refusal::Refusal;
 pub use vector::Vector3;

@@ -1,4 +1,4 @@
-//! The walk over a mesh, steps between its vertices, its renumbering, and the mark that its lists
+//! The walks over a mesh, steps between its vertices, its renumbering, and the mark that its lists
 //! ascend.
 
 use crate::{ffi, Refusal, Vector3};
@@ -61,6 +61,45 @@ pub fn bfs_vertex_permutation(
     let answer = ffi::walk(mesh, order, queue);
     Refusal::check_at(answer.refusal, answer.index)?;
     Ok(answer.entries_read)
+}
+
+/// How many islands a mesh is in, and the entries read over all of them.
+#[derive(Clone, Copy, Debug, PartialEq, Eq)]
+pub struct IslandCount {
+    /// How many islands there are, at least one.
+    pub islands: u32,
+    /// The count of entries read: that of the mesh, as each list is read once.
+    pub entries_read: u32,
+}
+
+/// The walk over a mesh in several islands: breadth first from the lowest id without a number, the
+/// root, and then again until all have one. What one walk numbers is an island, numbered behind the
+/// last: a connected component where neighbours are mutual. Where they aren't, an island is what its
+/// root reaches among the ids without a number, and an entry that names an id of an earlier island
+/// is read and lets nothing enter.
+///
+/// `order` gets the new id at each old one, `queue` the old id at each new one, and `island_starts`
+/// the first new id of each island, so 0 for the first. The last island ends at the vertex count,
+/// which isn't written; places behind the islands are untouched, also below the count. Where vertex
+/// 0 reaches all, there is one island, and the rest is as in [`bfs_vertex_permutation`]; where there
+/// are more, that call is refused by row 13, which isn't met here.
+///
+/// Each of the three slices has a place a vertex, and surplus is untouched. Positions are only
+/// counted: there is no row 5. Rows 2, 3, 17, 18, 3, 4 and 8 change nothing.
+///
+/// [`MeshData::walk_islands`](crate::MeshData::walk_islands) brings the slices itself.
+pub fn walk_islands(
+    mesh: Mesh,
+    order: &mut [u32],
+    queue: &mut [u32],
+    island_starts: &mut [u32],
+) -> Result<IslandCount, Refusal> {
+    let answer = ffi::walk_islands(mesh, order, queue, island_starts);
+    Refusal::check_at(answer.refusal, answer.index)?;
+    Ok(IslandCount {
+        islands: answer.islands,
+        entries_read: answer.entries_read,
+    })
 }
 
 /// The steps from one vertex to another, and the entries read until it was met.
@@ -167,6 +206,19 @@ pub struct Walk {
     pub entries_read: u32,
 }
 
+/// What an accepted walk over all islands gives.
+#[derive(Clone, Debug, PartialEq, Eq)]
+pub struct IslandWalk {
+    /// The new id at each old one: a permutation to renumber by.
+    pub order: Vec<u32>,
+    /// The old ids, island by island, each in the order of its walk.
+    pub queue: Vec<u32>,
+    /// The first new id of each island, as many as there are islands.
+    pub island_starts: Vec<u32>,
+    /// The count of entries read.
+    pub entries_read: u32,
+}
+
 /// A mesh that holds its lists itself, and its mark. Where these come from outside, the mark is
 /// false until [`MeshData::mark_ascending`]. Meshes are equal where lists and mark are.
 #[derive(Clone, Debug, PartialEq)]
@@ -223,7 +275,8 @@ impl MeshData {
         &self.entries[self.starts[id] as usize..self.starts[id + 1] as usize]
     }
 
-    /// The walk over the mesh: see [`bfs_vertex_permutation`]. A walk that row 13 refuses is lost.
+    /// The walk over the mesh: see [`bfs_vertex_permutation`]. A walk that row 13 refuses is lost:
+    /// where the mesh may be in several islands, [`MeshData::walk_islands`] numbers all of them.
     pub fn bfs_vertex_permutation(&self) -> Result<Walk, Refusal> {
         let count = self.vertex_count();
         let (mut order, mut queue) = (vec![0; count], vec![0; count]);
@@ -232,6 +285,44 @@ impl MeshData {
             order,
             queue,
             entries_read,
+        })
+    }
+
+    /// The walk over all islands of the mesh: see [`walk_islands`].
+    ///
+    /// ```
+    /// use koshirga::MeshData;
+    ///
+    /// // Vertices 1, 2 and 3 in one piece, 0 and 4 in another, and 5 alone.
+    /// let mesh = MeshData {
+    ///     positions: (0..6).flat_map(|id| [1.0, f64::from(id), 0.0]).collect(),
+    ///     starts: vec![0, 1, 3, 4, 5, 6, 6],
+    ///     entries: vec![4, 3, 2, 1, 1, 0],
+    ///     lists_ascend: false,
+    /// };
+    /// let walk = mesh.walk_islands()?;
+    /// assert_eq!(walk.queue, [0, 4, 1, 3, 2, 5]);
+    /// assert_eq!(walk.order, [0, 2, 4, 3, 1, 5]);
+    ///
+    /// // The islands begin at the numbers 0, 2 and 5, so at the vertices 0, 1 and 5.
+    /// assert_eq!(walk.island_starts, [0, 2, 5]);
+    /// assert_eq!(walk.entries_read, 6);
+    ///
+    /// // The ordinary walk doesn't reach them all.
+    /// assert_eq!(mesh.bfs_vertex_permutation().unwrap_err().number(), 13);
+    /// # Ok::<(), koshirga::Refusal>(())
+    /// ```
+    pub fn walk_islands(&self) -> Result<IslandWalk, Refusal> {
+        let count = self.vertex_count();
+        let (mut order, mut queue) = (vec![0; count], vec![0; count]);
+        let mut island_starts = vec![0; count];
+        let found = walk_islands(self.as_mesh(), &mut order, &mut queue, &mut island_starts)?;
+        island_starts.truncate(found.islands as usize);
+        Ok(IslandWalk {
+            order,
+            queue,
+            island_starts,
+            entries_read: found.entries_read,
         })
     }
 

@@ -96,6 +96,7 @@ fn the_header_has_the_sheets_order() {
     for (function, call) in [
         ("koshirga_lattice", "lattice"),
         ("koshirga_walk", "walk"),
+        ("koshirga_walk_islands", "walk over all islands"),
         ("koshirga_steps_between", "steps between two vertices"),
         ("koshirga_vertices_within", "vertices within so many steps"),
         ("koshirga_renumber", "renumbering"),

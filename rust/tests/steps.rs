@@ -5,8 +5,10 @@ use koshirga::{steps_between, vertices_within, LatticeGeometry, MeshData, Refusa
 
 mod common {
     pub mod lists;
+    pub mod refused;
 }
 use common::lists::mesh;
+use common::refused::{self, lent, Row};
 
 fn lattice(frequency: u32) -> MeshData {
     LatticeGeometry::new(frequency).unwrap().mesh
@@ -28,11 +30,6 @@ fn within(mesh: &MeshData, vertex: u32, steps: usize) -> Vec<u32> {
     mesh.vertices_within(vertex, steps).unwrap()
 }
 
-/// Words of which no two are equal.
-fn lent(places: usize) -> Vec<u32> {
-    (0..places as u32).map(|at| 0xa500_0000 | at).collect()
-}
-
 /// Steps and entries read, or a refusal's number and index, with scratch of these lengths. Scratch
 /// is what it was where the call is refused, but by row 15.
 fn between_with(
@@ -40,7 +37,7 @@ fn between_with(
     from: u32,
     to: u32,
     (order, queue): (usize, usize),
-) -> Result<(u32, u32), (u32, Option<usize>)> {
+) -> Result<(u32, u32), Row> {
     let (order_before, queue_before) = (lent(order), lent(queue));
     let (mut order, mut queue) = (order_before.clone(), queue_before.clone());
     let answer = steps_between(mesh.as_mesh(), from, to, &mut order, &mut queue);
@@ -59,7 +56,7 @@ fn within_with(
     vertex: u32,
     steps: usize,
     (order, list): (usize, usize),
-) -> Result<Vec<u32>, (u32, Option<usize>)> {
+) -> Result<Vec<u32>, Row> {
     let (order_before, list_before) = (lent(order), lent(list));
     let (mut order, mut list) = (order_before.clone(), list_before.clone());
     let answer = vertices_within(mesh.as_mesh(), vertex, steps, &mut order, &mut list);
@@ -172,31 +169,10 @@ fn length_of_scratch() {
     }
 }
 
-/// The mesh's rows come first, in their order: each mesh has what the later ones are refused for.
+/// The mesh's rows come first, in their order.
 #[test]
 fn rows_of_the_mesh() {
-    let good = path_and_island();
-    let starts = |starts: [u32; 6]| MeshData {
-        starts: starts.to_vec(),
-        entries: vec![5; 39],
-        ..good.clone()
-    };
-    let no_start = MeshData {
-        starts: vec![],
-        ..starts([1, 3, 2, 36, 36, 39])
-    };
-    let no_vertex = MeshData {
-        positions: vec![],
-        ..no_start.clone()
-    };
-    for (mesh, row) in [
-        (no_vertex, (2, None)),
-        (no_start, (3, None)),
-        (starts([1, 3, 2, 36, 36, 39]), (17, None)),
-        (starts([0, 3, 2, 36, 36, 39]), (18, Some(2))),
-        (starts([0, 2, 2, 36, 36, 39]), (3, None)),
-        (starts([0, 2, 2, 30, 36, 39]), (4, None)),
-    ] {
+    for (mesh, row) in refused::meshes() {
         assert_eq!(between_with(&mesh, 9, 9, (0, 0)), Err(row));
         assert_eq!(within_with(&mesh, 9, 0, (0, 0)), Err(row));
         let refused = mesh.steps_between(9, 9).unwrap_err();

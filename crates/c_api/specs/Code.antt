@@ -11,6 +11,7 @@ use Rattle.refusal.specs.Refusal.{Verdict, number_of, index_of}
 use Rattle.master_face.specs.declared.Three.{Three}
 use Rattle.analytic.specs.declared.Signs.{Signs}
 use Rattle.analytic.specs.declared.Located as analytic
+use Rattle.islands.specs.declared.IslandCount.{IslandCount}
 use Rattle.steps.specs.declared.Steps.{Steps}
 use Rattle.grid.specs.declared.Built.{Built}
 use Rattle.packing.specs.declared.LevelRecord.{LevelRecord}
@@ -23,6 +24,7 @@ use Rattle.c_api.specs.declared.FaceAnswer.{FaceAnswer}
 use Rattle.c_api.specs.declared.AnalyticAnswer.{AnalyticAnswer}
 use Rattle.c_api.specs.declared.VertexAnswer.{VertexAnswer}
 use Rattle.c_api.specs.declared.WalkAnswer.{WalkAnswer}
+use Rattle.c_api.specs.declared.IslandsAnswer.{IslandsAnswer}
 use Rattle.c_api.specs.declared.StepsAnswer.{StepsAnswer}
 use Rattle.c_api.specs.declared.WithinAnswer.{WithinAnswer}
 use Rattle.c_api.specs.declared.PackAnswer.{PackAnswer}
@@ -86,6 +88,10 @@ vertex_answer (Ok id) = record { refusal = 0; id = id }
 abbrev pub walk_answer : Result ℕ Refusal → WalkAnswer
 walk_answer (Err reason) = record { refusal = number_of reason; entries_read = 0; index = index_of reason }
 walk_answer (Ok read) = record { refusal = 0; entries_read = read; index = 0 }
+
+abbrev pub islands_answer : Result IslandCount Refusal → IslandsAnswer
+islands_answer (Err reason) = record { refusal = number_of reason; islands = 0; entries_read = 0; index = index_of reason }
+islands_answer (Ok counted) = record { refusal = 0; islands = counted.islands; entries_read = counted.entries_read; index = 0 }
 
 abbrev pub steps_answer : Result Steps Refusal → StepsAnswer
 steps_answer (Err reason) = record { refusal = number_of reason; steps = 0; entries_read = 0; index = index_of reason }

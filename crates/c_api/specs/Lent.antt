@@ -3,13 +3,15 @@ use Rattle.std.specs.Prelude.{ℕ, Bool, List, Float}
 use Rattle.mesh.specs.Mesh.{Mesh}
 use Rattle.mesh.specs.Mark.{MarkOutcome}
 use Rattle.walk.specs.Walk.{WalkOutcome}
+use Rattle.islands.specs.Outcomes.{IslandsOutcome}
 use Rattle.steps.specs.Outcomes.{WithinOutcome}
 use Rattle.renumber.specs.Renumber.{RenumberOutcome}
 use Rattle.c_api.specs.declared.VerdictAnswer.{VerdictAnswer}
 use Rattle.c_api.specs.declared.WalkAnswer.{WalkAnswer}
+use Rattle.c_api.specs.declared.IslandsAnswer.{IslandsAnswer}
 use Rattle.c_api.specs.declared.WithinAnswer.{WithinAnswer}
 use Rattle.c_api.specs.declared.PackAnswer.{PackAnswer}
-use Rattle.c_api.specs.Code.{build_answer, pack_answer, refusal_code, verdict_answer, walk_answer, within_answer}
+use Rattle.c_api.specs.Code.{build_answer, islands_answer, pack_answer, refusal_code, verdict_answer, walk_answer, within_answer}
 use Rattle.lattice.specs.Lattice.{LatticeSlices, LatticeOutcome}
 use Rattle.grid.specs.Grid.{GridSlices, BuildOutcome}
 use Rattle.packing.specs.Packing.{PackOutcome}
@@ -26,6 +28,19 @@ walk_left answer order queue = record { answer = answer; order = order; queue = 
 
 abbrev pub walk_left_of : WalkOutcome → WalkLeft
 walk_left_of outcome = walk_left (walk_answer outcome.answered) outcome.order outcome.queue
+
+-- The answer of a walk over all islands, order, queue and the islands' starts.
+pub record IslandsLeft : Type 0 where
+  pub answer : IslandsAnswer
+  pub order : List ℕ
+  pub queue : List ℕ
+  pub starts : List ℕ
+
+abbrev pub islands_left : IslandsAnswer → List ℕ → List ℕ → List ℕ → IslandsLeft
+islands_left answer order queue starts = record { answer = answer; order = order; queue = queue; starts = starts }
+
+abbrev pub islands_left_of : IslandsOutcome → IslandsLeft
+islands_left_of outcome = islands_left (islands_answer outcome.answered) outcome.order outcome.queue outcome.starts
 
 -- The answer of a call that lists the vertices within so many steps, and the list.
 pub record WithinLeft : Type 0 where

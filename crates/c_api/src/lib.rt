@@ -3,7 +3,7 @@
 
 ghost use Rattle.std.specs.Prelude.{◌≡◌};
 ghost use Rattle.analytic.specs.FaceChoice.{face_index};
-ghost use Rattle.c_api.specs.Code.{verdict_answer, face_answer, analytic_answer, vertex_answer, walk_answer, steps_answer, within_answer, build_answer, pack_answer, conversion_answer, nearest_answer, located_answer, refusal_code};
+ghost use Rattle.c_api.specs.Code.{verdict_answer, face_answer, analytic_answer, vertex_answer, walk_answer, islands_answer, steps_answer, within_answer, build_answer, pack_answer, conversion_answer, nearest_answer, located_answer, refusal_code};
 
 pub mod arithmetic;
 pub mod buffers;
@@ -16,6 +16,7 @@ use binary64::Converted;
 use grid::Built;
 use grid_query::{LocatedTriangle, Nearest};
 use icosahedron::Face;
+use islands::IslandCount;
 use packing::LevelRecord;
 use refusal::Refusal;
 use steps::Steps;
@@ -147,6 +148,34 @@ impl From<Result<u32, Refusal>> for WalkAnswer {
                 refusal: reason.number(),
                 index: reason.index(),
                 ..WalkAnswer::default()
+            },
+        }
+    }
+}
+
+#[repr(C)]
+#[derive(Clone, Copy, Debug, Default)]
+pub struct IslandsAnswer {
+    pub refusal: u32,
+    pub islands: u32,
+    pub entries_read: u32,
+    pub index: usize,
+}
+
+impl From<Result<IslandCount, Refusal>> for IslandsAnswer {
+    ghost from_gives = { λ outcome answer. answer ≡ islands_answer outcome };
+
+    fn from(outcome: Result<IslandCount, Refusal>) -> IslandsAnswer {
+        match outcome {
+            Ok(counted) => IslandsAnswer {
+                islands: counted.islands,
+                entries_read: counted.entries_read,
+                ..IslandsAnswer::default()
+            },
+            Err(reason) => IslandsAnswer {
+                refusal: reason.number(),
+                index: reason.index(),
+                ..IslandsAnswer::default()
             },
         }
     }

@@ -1,14 +1,15 @@
-// Meshes: the walk, steps between vertices, the mark of ascending lists, and the renumbering.
+// Meshes: the walk, the walk over all islands, steps between vertices, the mark of ascending lists, and the renumbering.
 ghost use Rattle.std.specs.Prelude.{◌<◌, ◌≡◌, ◌≢◌, [], ◌∷◌, length};
 ghost use Rattle.mesh.specs.Mesh.{mesh_of};
 ghost use Rattle.mesh.specs.Mark.{mark_ascending};
 ghost use Rattle.walk.specs.Walk.{bfs_vertex_permutation};
+ghost use Rattle.islands.specs.Outcomes.{walk_islands};
 ghost use Rattle.steps.specs.Outcomes.{steps_between, vertices_within};
 ghost use Rattle.renumber.specs.Renumber.{call_of, scratch_of, apply_vertex_permutation};
 ghost use Rattle.c_api.specs.Code.{steps_answer};
-ghost use Rattle.c_api.specs.Lent.{walk_left, walk_left_of, within_left, within_left_of, mark_left, mark_left_of, renumber_left, renumber_left_of};
+ghost use Rattle.c_api.specs.Lent.{walk_left, walk_left_of, islands_left, islands_left_of, within_left, within_left_of, mark_left, mark_left_of, renumber_left, renumber_left_of};
 
-use c_api::{StepsAnswer, VerdictAnswer, WalkAnswer, WithinAnswer};
+use c_api::{IslandsAnswer, StepsAnswer, VerdictAnswer, WalkAnswer, WithinAnswer};
 
 #[unsafe(no_mangle)]
 pub extern "C" fn koshirga_walk(
@@ -21,6 +22,21 @@ pub extern "C" fn koshirga_walk(
     ensures { walk_left result order.new queue.new ≡ walk_left_of (bfs_vertex_permutation (mesh_of positions.now starts.now entries.now) order.old queue.old) }
 {
     c_api::meshes::koshirga_walk(positions, starts, entries, order, queue)
+}
+
+// All vertices are numbered, and places of the islands' starts behind the islands stay as they were. After a refusal all slices are as they were.
+#[unsafe(no_mangle)]
+pub extern "C" fn koshirga_walk_islands(
+    positions: &[f64],
+    starts: &[u32],
+    entries: &[u16],
+    order: &mut [u32],
+    queue: &mut [u32],
+    island_starts: &mut [u32],
+) -> IslandsAnswer
+    ensures { islands_left result order.new queue.new island_starts.new ≡ islands_left_of (walk_islands (mesh_of positions.now starts.now entries.now) order.old queue.old island_starts.old) }
+{
+    c_api::meshes::koshirga_walk_islands(positions, starts, entries, order, queue, island_starts)
 }
 
 // Order and queue are scratch. After a refusal they are as they were, but after that of row 15, which leaves them free.

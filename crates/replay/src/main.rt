@@ -41,6 +41,7 @@ enum Kind {
     PackedLattices,
     StepsBetween,
     VerticesWithin,
+    WalkIslands,
 }
 
 // A file of records of one kind.
@@ -51,7 +52,7 @@ struct File {
 }
 
 // A kind's number is its place here. Right records are also read by this table, so that a wrong kind shows as differences.
-static FILES: [File; 18] = [
+static FILES: [File; 19] = [
     File {
         name: "mul_add",
         kind: Kind::MulAdd,
@@ -124,6 +125,10 @@ static FILES: [File; 18] = [
         name: "vertices_within",
         kind: Kind::VerticesWithin,
     },
+    File {
+        name: "walk_islands",
+        kind: Kind::WalkIslands,
+    },
 ];
 
 static LOCATORS: [&str; 5] = [
@@ -155,6 +160,7 @@ fn replay_record(kind: Kind, reader: &mut Reader) -> Result<(), Fault> {
         Kind::PackedLattices => buffers::packed_lattices(reader),
         Kind::StepsBetween => searches::steps_between(reader),
         Kind::VerticesWithin => searches::vertices_within(reader),
+        Kind::WalkIslands => searches::walk_islands(reader),
     }
 }
 

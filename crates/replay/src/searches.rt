@@ -1,4 +1,4 @@
-// Steps between two vertices of any mesh, and the vertices within so many steps of one, also such as some row refuses.
+// Steps between two vertices of any mesh, the vertices within so many steps of one, and the walk over all islands, also such as some row refuses.
 use crate::places::{F64_BEFORE, U16_BEFORE, U32_BEFORE};
 use crate::slices::{MeshSlices, cut};
 use records::{Fault, Reader, all_are};
@@ -62,6 +62,32 @@ fn within(reader: &mut Reader, mesh: &MeshSlices) -> Result<(), Fault> {
     reader.expect_list(list)
 }
 
+// The lengths of order, queue and the islands' starts; the refusal, how many islands there are, the entries read, the index, and the three slices after
+// the call.
+fn islands(reader: &mut Reader, mesh: &MeshSlices) -> Result<(), Fault> {
+    let mut order = [U32_BEFORE; 64];
+    let mut queue = [U32_BEFORE; 64];
+    let mut island_starts = [U32_BEFORE; 64];
+    let order = cut(reader, &mut order)?;
+    let queue = cut(reader, &mut queue)?;
+    let island_starts = cut(reader, &mut island_starts)?;
+    let answer = c_api::meshes::koshirga_walk_islands(
+        mesh.positions,
+        mesh.starts,
+        mesh.entries,
+        order,
+        queue,
+        island_starts,
+    );
+    reader.expect(answer.refusal)?;
+    reader.expect(answer.islands)?;
+    reader.expect(answer.entries_read)?;
+    reader.expect(answer.index as u64)?;
+    reader.expect_list(order)?;
+    reader.expect_list(queue)?;
+    reader.expect_list(island_starts)
+}
+
 // The lengths of a mesh's three slices, the slices, and how many calls there are; then each.
 fn with_mesh<F: FnMut(&mut Reader, &MeshSlices) -> Result<(), Fault>>(
     reader: &mut Reader,
@@ -87,4 +113,8 @@ pub fn steps_between(reader: &mut Reader) -> Result<(), Fault> {
 
 pub fn vertices_within(reader: &mut Reader) -> Result<(), Fault> {
     with_mesh(reader, |reader, mesh| within(reader, mesh))
+}
+
+pub fn walk_islands(reader: &mut Reader) -> Result<(), Fault> {
+    with_mesh(reader, |reader, mesh| islands(reader, mesh))
 }

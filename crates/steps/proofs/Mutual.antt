@@ -1,32 +1,18 @@
 -- Where neighbours are mutual, as many steps lead back as forth: `steps_mutual`. Assumes nothing.
-use Prim.Native.Nat.{ℕ, suc, ◌≤◌, ◌<◌}
+use Prim.Native.Nat.{ℕ, ◌≤◌, ◌<◌}
 use native.Mathlib.Omega.{arith}
 use native.Mathlib.Decide.{dec_lt}
 use mathlib.Core.Path.{◌≡◌}
 use mathlib.Core.List.{List, Memᴰ}
 use Rattle.sequences.proofs.Search.{first_below_lem}
-use Rattle.walk.specs.Paths.{PathTo, here, onward}
+use Rattle.walk.proofs.Paths.{path_back}
 use Rattle.steps.specs.Steps.{steps_to}
 use Rattle.steps.proofs.Paths.{is_near, within_path, steps_at_most, steps_shortest}
 
--- a path behind a step
-behind_step : (lists : ℕ → List ℕ) {v x w k : ℕ} → Memᴰ x (lists v) → PathTo lists x w k → PathTo lists v w (suc k)
-behind_step lists m here = onward here m
-behind_step lists m (onward p s) = onward (behind_step lists m p) s
-
 module _ (lists : ℕ → List ℕ) {n : ℕ} (below : (v : ℕ) → v < n → (x : ℕ) → Memᴰ x (lists v) → x < n)
     (mutual_lists : (v w : ℕ) → v < n → w < n → Memᴰ w (lists v) → Memᴰ v (lists w)) where
-  path_below : {v w k : ℕ} → v < n → PathTo lists v w k → w < n
-  path_below lt here = lt
-  path_below lt (onward {w} {x} p m) = below w (path_below lt p) x m
-
-  -- the same path the other way
-  path_back : {v w k : ℕ} → v < n → PathTo lists v w k → PathTo lists w v k
-  path_back lt here = here
-  path_back lt (onward {w} {x} p m) = let wlt = path_below lt p in behind_step lists (mutual_lists w x wlt (below w wlt x m) m) (path_back lt p)
-
   steps_back : (v w : ℕ) → v < n → steps_to lists n v w < n → steps_to lists n w v ≤ steps_to lists n v w
-  steps_back v w vlt lt = steps_at_most lists w n v (steps_to lists n v w) (within_path lists w (path_back vlt (steps_shortest lists v n w lt).path))
+  steps_back v w vlt lt = steps_at_most lists w n v (steps_to lists n v w) (within_path lists w (path_back lists below mutual_lists vlt (steps_shortest lists v n w lt).path))
 
   pub steps_mutual : (v w : ℕ) → v < n → w < n → steps_to lists n v w ≡ steps_to lists n w v
   unfolding steps_to

@@ -1,8 +1,7 @@
 -- This crate's theorems, on the outcomes of both calls: the number of steps, the complete walk beside it, row 15, the list, how both calls agree, the index of a refusal, and worked cases. Definitions only.
-use Rattle.std.specs.Prelude.{ℕ, suc, ◌+◌, ◌*◌, ◌≤◌, ◌<◌, ◌≡◌, ◌≢◌, ◌↔◌, List, [], ◌∷◌, length, take, drop, replicate, slice_index, slice_index_or, Result, Ok, Err}
+use Rattle.std.specs.Prelude.{ℕ, suc, ◌+◌, ◌≤◌, ◌<◌, ◌≡◌, ◌≢◌, ◌↔◌, List, [], ◌∷◌, length, take, drop, replicate, slice_index, Result, Ok, Err}
 use Rattle.std.specs.Float.{nan}
 use mathlib.Core.List.{Memᴰ}
-use Rattle.sequences.specs.Starts.{concatenate, starts_of}
 use Rattle.refusal.specs.declared.Refusal.{Refusal}
 use Rattle.refusal.specs.declared.Refusal.TheVariants.{Room, Vertex, NoPath, StartsFall}
 use Rattle.mesh.specs.Mesh.{Mesh, count, neighbours, mesh_of}
@@ -12,7 +11,7 @@ use Rattle.mesh.specs.Laws.{IndexTold}
 use Rattle.walk.specs.Walk.{Visit, begun, continued, walk_from}
 use Rattle.walk.specs.Buffers.{DistinctIds}
 use Rattle.walk.specs.Paths.{PathTo}
-use Rattle.walk.specs.Laws.{twelve_lists}
+use Rattle.walk.specs.Laws.{mesh_with, twelve_lists}
 use Rattle.steps.specs.declared.Steps.{Steps}
 use Rattle.steps.specs.Steps.{entries_of, first_place, steps_with}
 use Rattle.steps.specs.Outcomes.{longest_taken, steps_between, within_outcome, vertices_within}
@@ -141,12 +140,6 @@ abbrev pub WithinIndex : Type 0
 WithinIndex = (m : Mesh) (vertex steps order_length : ℕ) (list : List ℕ) (reason : Refusal) → (vertices_within m vertex steps order_length list).answered ≡ Err reason → IndexTold m.starts reason
 
 -- ---- worked cases
--- A mesh with these lists. Both calls ask nothing of its positions but how many they are.
-abbrev pub mesh_with : List (List ℕ) → Mesh
-mesh_with lists =
-    let list : ℕ → List ℕ = λ v. slice_index_or lists v [] in
-    mesh_of (replicate (length lists * 3) nan) (starts_of (length lists) list) (concatenate (length lists) list)
-
 -- The lattice of frequency 1: its 60 entries are its longest slice, and the complete walk reads them all.
 abbrev pub lattice_steps : ℕ → ℕ → Result Steps Refusal
 lattice_steps from to = steps_between (mesh_with twelve_lists) from to 60 60

@@ -9,6 +9,7 @@ use mathlib.Core.List.Memᴰ
 use mathlib.Core.List.{List, [], ◌∷◌, ◌++◌, Memᴰ}
 use lib.ListN.{length, get_or, take}
 use borrow.Author.Tests.{lt-ltb, le-ltb}
+use Rattle.std.specs.Prelude.{nat_lt}
 use Rattle.sequences.specs.Range.{sum_below}
 use Rattle.sequences.specs.Ascending.{is_member}
 use Rattle.sequences.specs.Starts.{start_of, part}
@@ -126,6 +127,20 @@ module _ (lists : ℕ → List ℕ) (first : Visit) (from : ℕ) where
         let r = sum_injection (λ j. get_or (after k).queue (from + j) 0) (λ v. length (lists v)) k n (λ j lj. ids_below_lem h (from + j) (omega arith))
         (λ i j li lj e. let s = ids_injective h (from + i) (from + j) (omega arith) (omega arith) e in let t : i ≡ j = omega arith in t) in
         omega (arith, entries_agree k le)
+
+-- entries that were read before count on
+pub continued_counted : (lists : ℕ → List ℕ) (ids : List ℕ) (read from k : ℕ)
+    → continued lists (record { queue = ids; entries_read = read }) from k ≡ record { queue = (continued lists (begun ids) from k).queue; entries_read = read + (continued lists (begun ids) from k).entries_read }
+unfolding continued leave
+continued_counted lists ids read from zero = let e : read ≡ read + 0 = omega arith in ap (λ (r : ℕ). record { queue = ids; entries_read = r }) e
+continued_counted lists ids read from (suc k) =
+    let same = continued_counted lists ids read from k in
+    let w = continued lists (begun ids) from k in
+    ap (λ (v : Visit). leave lists v (nat_lt (from + k) (length v.queue)) (from + k)) same ∙ go w (nat_lt (from + k) (length w.queue))
+  where
+    go : (w : Visit) (b : Bool) → leave lists (record { queue = w.queue; entries_read = read + w.entries_read }) b (from + k) ≡ record { queue = (leave lists w b (from + k)).queue; entries_read = read + (leave lists w b (from + k)).entries_read }
+    go w true = let l = length (lists (get_or w.queue (from + k) 0)) in let e : read + w.entries_read + l ≡ read + (w.entries_read + l) = omega arith in ap (λ (r : ℕ). record { queue = entered w.queue (lists (get_or w.queue (from + k) 0)); entries_read = r }) e
+    go w false = refl
 
 -- ---- a complete walk
 -- one id

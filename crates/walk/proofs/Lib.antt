@@ -6,3 +6,4 @@ pub mod Theorems
 pub mod Cases
 pub mod Reading
 pub mod Reached
+pub mod Paths

@@ -58,25 +58,25 @@ module _ (m : Mesh) (order queue : List ℕ) where
     outcome_queue_short short = outcome_short (and_right (leb (count m) (length order)) (leb (count m) (length queue)) (lt-leb (count m) (length queue) short))
 
     -- there is room, and the walk was made
-    module _ (order_room : count m ≤ length order) (queue_room : count m ≤ length queue) {reach : Reach} {left filled : List ℕ}
-        (done : Traversed (count m) (part m.starts m.entries) queue reach left filled) where
-      made : walked m order queue ≡ bfs_vertex_permutation m order queue
+    module _ (order_room : count m ≤ length order) (queue_room : count m ≤ length queue) where
+      pub walk_made : walked m order queue ≡ bfs_vertex_permutation m order queue
       unfolding walk_fits
-      made = outcome_made (and_from (leb (count m) (length order)) (leb (count m) (length queue)) (le-leb (count m) (length order) order_room) (le-leb (count m) (length queue) queue_room))
+      walk_made = outcome_made (and_from (leb (count m) (length order)) (leb (count m) (length queue)) (le-leb (count m) (length order) order_room) (le-leb (count m) (length queue) queue_room))
 
-      order_left : left ++ drop (count m) order ≡ overwrite (order_of (count m) (breadth_first (count m) (neighbours m)).queue) order
-      unfolding overwrite neighbours
-      order_left = (rw (← holding_order_length done.holds)) ∙ ap (λ (l : List ℕ). overwrite l order) done.holds.numbered
+      module _ {reach : Reach} {left filled : List ℕ} (done : Traversed (count m) (part m.starts m.entries) queue reach left filled) where
+        order_left : left ++ drop (count m) order ≡ overwrite (order_of (count m) (breadth_first (count m) (neighbours m)).queue) order
+        unfolding overwrite neighbours
+        order_left = (rw (← holding_order_length done.holds)) ∙ ap (λ (l : List ℕ). overwrite l order) done.holds.numbered
 
-      pub outcome_walked : reach.vertices ≡ count m → walk_outcome (Ok reach.entries) (left ++ drop (count m) order) filled ≡ bfs_vertex_permutation m order queue
-      unfolding walked neighbours
-      outcome_walked all =
-          rw (← made, eq-eqb (length (breadth_first (count m) (neighbours m)).queue) (count m) (done.holds.size ∙ all), order_left, done.holds.queued, done.entries_agree) refl
+        pub outcome_walked : reach.vertices ≡ count m → walk_outcome (Ok reach.entries) (left ++ drop (count m) order) filled ≡ bfs_vertex_permutation m order queue
+        unfolding walked neighbours
+        outcome_walked all =
+            rw (← walk_made, eq-eqb (length (breadth_first (count m) (neighbours m)).queue) (count m) (done.holds.size ∙ all), order_left, done.holds.queued, done.entries_agree) refl
 
-      pub outcome_unreached : reach.vertices ≢ count m → walk_outcome (Err Unreached) (left ++ drop (count m) order) filled ≡ bfs_vertex_permutation m order queue
-      unfolding walked neighbours
-      outcome_unreached some =
-          rw (← made, ne_eqb (length (breadth_first (count m) (neighbours m)).queue) (count m) (λ e. some (sym done.holds.size ∙ e)), order_left, done.holds.queued) refl
+        pub outcome_unreached : reach.vertices ≢ count m → walk_outcome (Err Unreached) (left ++ drop (count m) order) filled ≡ bfs_vertex_permutation m order queue
+        unfolding walked neighbours
+        outcome_unreached some =
+            rw (← walk_made, ne_eqb (length (breadth_first (count m) (neighbours m)).queue) (count m) (λ e. some (sym done.holds.size ∙ e)), order_left, done.holds.queued) refl
 
 -- ---- what a call found
 -- rows 2 to 4 refuse, or row 8 does, or the walk was made

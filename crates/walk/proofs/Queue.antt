@@ -120,7 +120,7 @@ order_with_absent n q v lt m =
     go i li (no ne) =
         get_or-set_other (tabulate n (place_from 0 q)) v i (length q) 0 ne ∙ tabulate_at n (place_from 0 q) i 0 li ∙ sym (place_beside 0 q v i ne)
 
-queue_with : (q old : List ℕ) (v : ℕ) → length q < length old → set (overwrite q old) (length q) v ≡ overwrite (q ++ (v ∷ [])) old
+pub queue_with : (q old : List ℕ) (v : ℕ) → length q < length old → set (overwrite q old) (length q) v ≡ overwrite (q ++ (v ∷ [])) old
 unfolding overwrite
 queue_with q old v lt =
     let e : length (q ++ (v ∷ [])) ≡ suc (length q) = simp length-append (omega arith) in
@@ -181,14 +181,14 @@ module _ {n : ℕ} {q old : List ℕ} {reached : ℕ} {order queue : List ℕ} (
   unfolding order_of
   number_at = ap (λ (l : List ℕ). get_or l v 0) h.numbered ∙ tabulate_at n (place_from 0 q) v 0 lt
 
-  numbered_member : get_or order v 0 ≢ unreached → is_member v q ≡ true
+  pub numbered_member : get_or order v 0 ≢ unreached → is_member v q ≡ true
   numbered_member ne = go (cases_Bool (is_member v q))
     where
       go : (is_member v q ≡ true) ⊎ (is_member v q ≡ false) → is_member v q ≡ true
       go (inl e) = e
       go (inr e) = absurd (ne (number_at ∙ place_of_absent 0 q v e))
 
-  unnumbered_absent : get_or order v 0 ≡ unreached → is_member v q ≡ false
+  pub unnumbered_absent : get_or order v 0 ≡ unreached → is_member v q ≡ false
   unnumbered_absent e = go (cases_Bool (is_member v q))
     where
       go : (is_member v q ≡ true) ⊎ (is_member v q ≡ false) → is_member v q ≡ false
@@ -266,7 +266,7 @@ unfolding overwrite
 holding_none cleared = record { size = refl; once = record { below = λ v m. absurd (Memᴰ.not-nil m); distinct = tt }; numbered = cleared; queued = refl }
 
 -- a vertex that has no number enters
-holding_behind : {n : ℕ} {q old order queue : List ℕ} {reached : ℕ} → Holding n q old reached order queue → n ≤ unreached → (v : ℕ) → v < n → n ≤ length old → get_or order v 0 ≡ unreached
+pub holding_behind : {n : ℕ} {q old order queue : List ℕ} {reached : ℕ} → Holding n q old reached order queue → n ≤ unreached → (v : ℕ) → v < n → n ≤ length old → get_or order v 0 ≡ unreached
     → Holding n (q ++ (v ∷ [])) old (reached + 1) (set order v reached) (set queue reached v)
 holding_behind {q} h few v lt room e = rw (enter_absent q v (unnumbered_absent h few v lt e)) at (holding_new h few v lt room e)
 

@@ -1,5 +1,5 @@
--- What the complete walk from any vertex reaches (`walk_follows_paths`), and what a walk's outcome has. Accepted: a permutation, its inverse in the queue, and all entries read (`walk_accepted`). Err by row 13: the reached ids are numbered, no others (`unreached_numbered`). Err by any row: what the index tells (`walk_index`). Assumes nothing.
-use Prim.Native.Nat.{ℕ, ◌<◌}
+-- What the complete walk from any vertex reaches (`walk_follows_paths`), and what a walk's outcome has. Accepted where every vertex is reached (`all_reached`). Accepted: a permutation, its inverse in the queue, and all entries read (`walk_accepted`). Err by row 13: the reached ids are numbered, no others (`unreached_numbered`). Err by any row: what the index tells (`walk_index`). Assumes nothing.
+use Prim.Native.Nat.{ℕ, ◌≤◌, ◌<◌}
 use native.Mathlib.Omega.{arith}
 use mathlib.Core.Path.{◌≡◌, refl, sym, ap, subst, ◌∙◌}
 use mathlib.Core.Logic.{◌≢◌}
@@ -7,7 +7,7 @@ use mathlib.Core.Bool.{Bool, true, false}
 use mathlib.Core.List.{List}
 use lib.Dec.{eqb}
 use lib.ListN.{length, take}
-use borrow.Author.Tests.{eqb-true, eqb-false}
+use borrow.Author.Tests.{eq-eqb, eqb-true, eqb-false}
 use Rattle.sequences.specs.Tabulate.{overwrite}
 use Rattle.sequences.specs.Permutation.{at}
 use Rattle.sequences.proofs.Tabulate.{take_overwrite, overwrite_at}
@@ -24,11 +24,11 @@ use Rattle.mesh.proofs.Facts.{adjacency_facts}
 use Rattle.mesh.proofs.Neighbours.{neighbour_below, entries_of_neighbours}
 use Rattle.mesh.specs.Laws.{IndexTold}
 use Rattle.mesh.proofs.Refusals.{told_none, adjacency_index, adjacency_reasons}
-use Rattle.walk.specs.Walk.{order_of, WalkOutcome, walked, bfs_vertex_permutation}
+use Rattle.walk.specs.Walk.{order_of, WalkOutcome, walk_outcome, walked, bfs_vertex_permutation}
 use Rattle.walk.specs.Buffers.{DistinctIds}
 use Rattle.walk.specs.Laws.{WalkFollowsPaths, visit_of, AcceptedWalk, PartialWalk}
 use Rattle.walk.proofs.Queue.{ids_at_most, ids_permutation}
-use Rattle.walk.proofs.Outcome.{Found, rows_refuse, short, made_of, found}
+use Rattle.walk.proofs.Outcome.{walk_made, Found, rows_refuse, short, made_of, found}
 use Rattle.walk.proofs.Continued.{walk_ids, all_entries_read}
 use Rattle.walk.proofs.Reached.{path_reached, reached_path}
 use Rattle.walk.proofs.Order.{length_order, number_of_place, number_of_member, number_of_absent, order_inverse, order_permutation}
@@ -58,6 +58,25 @@ module _ (m : Mesh) (passed : adjacency_rows m ≡ Ok tt) where
       all_entries_read (neighbours m) 0 facts.some (λ v lt x k. neighbour_below m facts v x k) all
       ∙ sym (length_concatenate (count m) (neighbours m)) ∙ ap length (entries_of_neighbours m facts)
 
+-- a walk that reaches every vertex is accepted
+pub all_reached : (m : Mesh) (order queue : List ℕ) → adjacency_rows m ≡ Ok tt → count m ≤ length order → count m ≤ length queue → length (visit_of m).queue ≡ count m
+    → bfs_vertex_permutation m order queue ≡ walk_outcome (Ok (length m.entries)) (overwrite (order_of (count m) (visit_of m).queue) order) (overwrite (visit_of m).queue queue)
+unfolding walked
+all_reached m order queue passed order_room queue_room all = sym (walk_made m order queue passed order_room queue_room) ∙ (rw (eq-eqb (length (visit_of m).queue) (count m) all, all_read m passed all) refl)
+
+-- ids of all vertices, and the order that numbers them
+pub all_numbered_accepted : {n entries read : ℕ} {q : List ℕ} → DistinctIds n q → length q ≡ n → read ≡ entries → AcceptedWalk n entries read (order_of n q) q
+all_numbered_accepted {n} {q = q} ids all read_all =
+    let bijection = permutation_bijection (ids_permutation ids all) in
+    record {
+      all_entries = read_all;
+      permutation = is_permutation_complete n (order_of n q) (order_permutation ids all);
+      number_of_id = λ k lt. number_of_place ids k (omega arith);
+      id_of_number = λ v lt. (rw (order_inverse ids all)) ∙ bijection.right_inverse v lt;
+      queue_below = λ k lt. bijection.maps k lt;
+      queue_distinct = ids.distinct;
+    }
+
 -- ---- accepted, or refused by row 13 or another
 module _ (m : Mesh) (order queue : List ℕ) where
   different : {A : Type 0} {reason : Refusal} {read : ℕ} → Err reason ≡ Ok read → A
@@ -82,16 +101,8 @@ module _ (m : Mesh) (order queue : List ℕ) where
       go (short p o) = different (ap (λ (w : WalkOutcome). w.answered) o ∙ e)
       go (made_of p o) =
           let all = answered_all read (ap (λ (w : WalkOutcome). w.answered) o ∙ e) in
-          let ids = queue_ids m p in
-          let bijection = permutation_bijection (ids_permutation ids all.0) in
-          rw (← o, take_overwrite (order_of (count m) (visit_of m).queue) order (count m) (length_order (count m) (visit_of m).queue), take_overwrite (visit_of m).queue queue (count m) all.0) (record {
-            all_entries = sym all.1 ∙ all_read m p all.0;
-            permutation = is_permutation_complete (count m) (order_of (count m) (visit_of m).queue) (order_permutation ids all.0);
-            number_of_id = λ k lt. number_of_place ids k (omega (arith, all.0));
-            id_of_number = λ v lt. (rw (order_inverse ids all.0)) ∙ bijection.right_inverse v lt;
-            queue_below = λ k lt. bijection.maps k lt;
-            queue_distinct = ids.distinct;
-          })
+          rw (← o, take_overwrite (order_of (count m) (visit_of m).queue) order (count m) (length_order (count m) (visit_of m).queue), take_overwrite (visit_of m).queue queue (count m) all.0)
+          (all_numbered_accepted (queue_ids m p) all.0 (sym all.1 ∙ all_read m p all.0))
 
   answered_some : (walked m order queue).answered ≡ Err Unreached → length (visit_of m).queue ≢ count m
   unfolding walked

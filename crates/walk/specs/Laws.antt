@@ -1,12 +1,14 @@
 -- This crate's theorems: what a walk from any vertex reaches, what an accepted walk has, what one that row 13 refuses leaves, what the index of a refusal tells, and a worked case. Definitions only.
-use Rattle.std.specs.Prelude.{ℕ, ◌<◌, ◌≡◌, ◌↔◌, true, [], ◌∷◌, length, take, slice_index_or, Ok, Err}
+use Rattle.std.specs.Prelude.{ℕ, ◌*◌, ◌<◌, ◌≡◌, ◌↔◌, true, [], ◌∷◌, length, take, replicate, slice_index_or, Ok, Err}
+use Rattle.std.specs.Float.{nan}
 use mathlib.Core.List.{List, Memᴰ}
 use Rattle.sequences.specs.Tabulate.{overwrite}
+use Rattle.sequences.specs.Starts.{concatenate, starts_of}
 use Rattle.sequences.specs.Ascending.{Distinct}
 use Rattle.sequences.specs.Permutation.{at, is_permutation}
 use Rattle.refusal.specs.declared.Refusal.{Refusal}
 use Rattle.refusal.specs.declared.Refusal.TheVariants.{Unreached}
-use Rattle.mesh.specs.Mesh.{Mesh, count, neighbours}
+use Rattle.mesh.specs.Mesh.{Mesh, count, neighbours, mesh_of}
 use Rattle.mesh.specs.Rows.{adjacency_rows}
 use Rattle.mesh.specs.Laws.{IndexTold}
 use Rattle.walk.specs.Walk.{Visit, walk_from, breadth_first, unreached, bfs_vertex_permutation}
@@ -57,7 +59,14 @@ UnreachedNumbered = (m : Mesh) (order queue : List ℕ) → let outcome = bfs_ve
 abbrev pub WalkIndex : Type 0
 WalkIndex = (m : Mesh) (order queue : List ℕ) (reason : Refusal) → (bfs_vertex_permutation m order queue).answered ≡ Err reason → IndexTold m.starts reason
 
--- ---- a worked case: the walk of the lattice of frequency 1 from its lists, as `lattice-list` prints them; all 60 entries are read
+-- ---- worked cases
+-- A mesh with these lists. A walk asks nothing of its positions but how many they are.
+abbrev pub mesh_with : List (List ℕ) → Mesh
+mesh_with lists =
+    let list : ℕ → List ℕ = λ v. slice_index_or lists v [] in
+    mesh_of (replicate (length lists * 3) nan) (starts_of (length lists) list) (concatenate (length lists) list)
+
+-- The walk of the lattice of frequency 1 from its lists, as `lattice-list` prints them; all 60 entries are read.
 abbrev pub twelve_lists : List (List ℕ)
 twelve_lists =
     (1 ∷ 2 ∷ 3 ∷ 6 ∷ 7 ∷ []) ∷ (0 ∷ 2 ∷ 5 ∷ 6 ∷ 10 ∷ []) ∷ (0 ∷ 1 ∷ 3 ∷ 4 ∷ 5 ∷ []) ∷ (0 ∷ 2 ∷ 4 ∷ 7 ∷ 8 ∷ [])

@@ -22,7 +22,7 @@ pub struct Reach {
 
 // What the order holds for an id that has not entered the queue: 4,294,967,295. A number of its own, since callers read it and the order is
 // lent as plain words.
-const UNREACHED: u32 = u32::MAX;
+pub const UNREACHED: u32 = u32::MAX;
 
 // The ids of a list that have not entered yet enter behind the first `reached` places of the queue, and are numbered as they enter.
 // Order and queue stand apart, as C lends them, and the queue is whole: how far it is filled stands beside it.

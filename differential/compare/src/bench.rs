@@ -2,6 +2,7 @@
 
 use crate::grids::greatest_ids;
 use crate::helpers::place;
+use crate::islands::side_by_side;
 use crate::meshes::{Flat, Lattice, Lists};
 use crate::pairs::{self, pair, USUAL};
 use crate::patterns::Random;
@@ -78,6 +79,9 @@ pub fn run() {
         packing(frequency);
     }
     meshes(80);
+    for frequency in [20, 80] {
+        islands(frequency);
+    }
     for frequency in [20, 40, 80] {
         steps(frequency);
     }
@@ -260,6 +264,34 @@ fn meshes(frequency: usize) {
     print_times(&format!("renumber {frequency}"), renumber, rust_renumber);
     let name = format!("renumber {frequency}, Rust + sort");
     print_times(&name, renumber, rust_sorted);
+}
+
+/// The walk over all islands of the lattice, which is one, beside the Rust's walk of it; and of four
+/// lattices of half the frequency in one mesh, beside the Rust's four walks of these. The Rust allocates
+/// its slices in each call.
+fn islands(frequency: usize) {
+    let whole = Lattice::new(frequency).lists;
+    let part = Lattice::new(frequency / 2).lists;
+    let parts = side_by_side(&[&part; 4]).flat();
+    let flat = whole.flat();
+    let [mut order, mut queue, mut starts] = [(); 3].map(|()| vec![0; parts.count()]);
+    let mut walk = |mesh: &Flat| {
+        koshirga::walk_islands(mesh.as_mesh(), &mut order, &mut queue, &mut starts)
+            .map(|found| found.islands)
+    };
+    assert_eq!([walk(&flat), walk(&parts)], [Ok(1), Ok(4)]);
+    let mut times = [const { Vec::new() }; 4];
+    for _ in 0..MESH_ROUNDS {
+        times[0].push(once(|| walk(&flat)));
+        times[1].push(once(|| rust::bfs_vertex_permutation(&whole.neighbors)));
+        times[2].push(once(|| walk(&parts)));
+        times[3].push(once(|| {
+            [(); 4].map(|()| rust::bfs_vertex_permutation(&part.neighbors))
+        }));
+    }
+    let [one, rust_one, four, rust_four] = times.map(median);
+    print_times(&format!("islands {frequency}, one"), one, rust_one);
+    print_times(&format!("islands {frequency}, four"), four, rust_four);
 }
 
 /// The list of all vertices beside the Rust's walk, which gives the same order and allocates its own

@@ -17,6 +17,7 @@ mod directions;
 mod grids;
 mod helpers;
 mod invariance;
+mod islands;
 mod lattices;
 mod marks;
 mod meshes;
@@ -41,13 +42,14 @@ use std::io::{self, BufWriter, Write};
 use std::path::Path;
 use std::process::ExitCode;
 
-const TOPICS: [Topic; 14] = [
+const TOPICS: [Topic; 15] = [
     Topic::new("helpers", helpers::checks),
     Topic::new("arithmetic", arithmetic::checks),
     Topic::new("vectors", vectors::checks),
     Topic::new("weights", weights::checks),
     Topic::new("analytic", analytic::checks),
     Topic::new("walk", walk::checks),
+    Topic::new("islands", islands::checks),
     Topic::new("steps", steps::checks),
     Topic::new("renumber", renumber::checks),
     Topic::new("lattices", lattices::checks),

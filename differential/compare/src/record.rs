@@ -6,6 +6,7 @@ use crate::check::Left;
 use crate::directions::{row_9, rust_of, Directions};
 use crate::grids::{held_beside, mesh_row, row_5, rust_grid};
 use crate::helpers::{conversion_by_fields, minimum_number_of};
+use crate::islands;
 use crate::marks::exchange;
 use crate::meshes::{permutation, Flat, Lattice, Lists, FREQUENCIES};
 use crate::operands::{each_exponent, special_numbers, Class, COMPARANDS, RADICANDS, TRIPLES};
@@ -53,10 +54,16 @@ const PACKINGS: usize = 60;
 const SEARCHED: usize = 120;
 const SEARCHES: usize = 8;
 const PATH: usize = 40;
+/// Lattices of frequency 1 side by side, and meshes of them; random meshes whose neighbours are mutual;
+/// the walks over all islands of each mesh.
+const SIDE_BY_SIDE: usize = 3;
+const UNIONS: usize = 3;
+const MUTUAL: usize = 60;
+const WALKS: usize = 2;
 
 /// What the wrong records are made of: the file of a right one, the record in it, and the word of its
 /// answers that is changed, both counted from 0.
-const WRONG: [(&str, usize, usize); 32] = [
+const WRONG: [(&str, usize, usize); 40] = [
     ("mul_add", 0, 0),
     ("sqrt", 0, 0),
     // The conversion, of a negative number and of a positive one.
@@ -107,6 +114,17 @@ const WRONG: [(&str, usize, usize); 32] = [
     ("vertices_within", 0, 4),
     ("vertices_within", 0, 6),
     ("vertices_within", 0, 58),
+    // Of the first walk over all islands: refusal, islands, entries read, a vertex of the order and of
+    // the queue, the second island's start, the first place behind the starts; of one that is refused: a
+    // place of the starts.
+    ("walk_islands", 0, 0),
+    ("walk_islands", 0, 1),
+    ("walk_islands", 0, 2),
+    ("walk_islands", 0, 6),
+    ("walk_islands", 0, 12),
+    ("walk_islands", 0, 17),
+    ("walk_islands", 0, 19),
+    ("walk_islands", 0, 38),
 ];
 /// The same for the mark after a lattice, a reading and a renumbering: the file, and what becomes of
 /// the mark. The shortest record of this kind is taken.
@@ -117,7 +135,7 @@ const WRONG_MARKS: [(&str, Marked); 4] = [
     ("renumberings", accepted(false, true)),
 ];
 /// The same for the index of row 18: the file, and the call whose first index is changed.
-const WRONG_INDICES: [(&str, &str); 9] = [
+const WRONG_INDICES: [(&str, &str); 10] = [
     ("meshes", READING),
     ("meshes", WALK),
     ("meshes", BUILDER),
@@ -127,6 +145,7 @@ const WRONG_INDICES: [(&str, &str); 9] = [
     ("packings", PACKING),
     ("steps_between", SEARCH),
     ("vertices_within", WITHIN),
+    ("walk_islands", ISLANDS),
 ];
 /// Files of which one record has +0 for −0 in its answers, where the clause tells the two apart: a
 /// minimum, and a least weight that was +0 by document 01.
@@ -144,14 +163,16 @@ const LOCATION: &str = "location";
 const PACKING: &str = "packing";
 const SEARCH: &str = "search";
 const WITHIN: &str = "within";
+const ISLANDS: &str = "islands";
 /// The rows that have to refuse some call of a file.
-const REACHED: [(&str, &[u32]); 6] = [
+const REACHED: [(&str, &[u32]); 7] = [
     ("meshes", &[2, 3, 17, 18, 4, 5, 8, 13]),
     ("renumberings", &[2, 3, 17, 18, 4, 6, 7, 8]),
     ("grid_queries", &[2, 3, 9, 18, 11, 4, 12]),
     ("packings", &[2, 19, 20, 3, 17, 18, 4, 5, 8]),
     ("steps_between", &[2, 3, 17, 18, 4, 14, 8, 15]),
     ("vertices_within", &[2, 3, 17, 18, 4, 14, 8]),
+    ("walk_islands", &[2, 3, 17, 18, 4, 8]),
 ];
 
 /// A call that is lent the mark: whether it is accepted, and the mark before and after it.
@@ -368,12 +389,13 @@ impl Record {
             .index(PACKING, answer.err())
     }
 
-    /// The answer of a search: steps and entries read.
-    fn found(self, answer: Result<[u32; 2], Reason>) -> Self {
+    /// The answer of a search, steps and entries read; that of a walk over all islands has their number
+    /// first.
+    fn found(self, call: &'static str, answer: Result<[u32; 2], Reason>) -> Self {
         self.outcome()
             .refusal(answer.err())
             .numbers(&answer.unwrap_or_default())
-            .index(SEARCH, answer.err())
+            .index(call, answer.err())
     }
 
     fn answers(self, answers: &Answers) -> Self {
@@ -501,6 +523,7 @@ pub fn write(folder: &Path) -> io::Result<()> {
         ("packed_lattices", packed_lattices),
         ("steps_between", steps_between),
         ("vertices_within", vertices_within),
+        ("walk_islands", walk_islands),
     ]
     .map(|(name, records)| (name.to_string(), records()))
     .into();
@@ -1764,10 +1787,14 @@ fn packed_lattices() -> Records {
     records
 }
 
-/// A mesh whose positions are zeros, as both calls have no row for coordinates.
+/// A mesh of lists by hand.
 fn searched(lists: &[&[u16]]) -> Flat {
-    let neighbors: Vec<Vec<u16>> = lists.iter().map(|list| list.to_vec()).collect();
-    let vertices = vec![[0.0; 3]; lists.len()];
+    unplaced(lists.iter().map(|list| list.to_vec()).collect())
+}
+
+/// A mesh whose positions are zeros, as searches and walks have no row for coordinates.
+fn unplaced(neighbors: Vec<Vec<u16>>) -> Flat {
+    let vertices = vec![[0.0; 3]; neighbors.len()];
     Lists {
         vertices,
         neighbors,
@@ -1778,10 +1805,8 @@ fn searched(lists: &[&[u16]]) -> Flat {
 /// So many vertices, each a neighbour of the one before it and of the one behind it.
 fn path(count: u16) -> Flat {
     let beside = |v: u16| [v.checked_sub(1), (v + 1 < count).then_some(v + 1)];
-    let lists: Vec<Vec<u16>> = (0..count)
-        .map(|v| beside(v).into_iter().flatten().collect())
-        .collect();
-    searched(&lists.iter().map(Vec::as_slice).collect::<Vec<_>>())
+    let lists = (0..count).map(|v| beside(v).into_iter().flatten().collect());
+    unplaced(lists.collect())
 }
 
 /// The ids that the Rust's walk begun at a vertex reaches, in its order.
@@ -1904,7 +1929,7 @@ fn searches(mesh: &Flat, calls: &[(Search, Result<[u32; 2], Reason>)]) -> Record
             .call()
             .numbers(&[search.from, search.to])
             .lengths(&search.places)
-            .found(*answer)
+            .found(SEARCH, *answer)
     })
 }
 
@@ -1941,9 +1966,9 @@ const ISLAND: [&[u16]; 5] = [&[1], &[2, 0], &[3, 1], &[2], &[4]];
 const REPEATS: [&[u16]; 3] = [&[2, 2, 1], &[0], &[1, 1, 2]];
 const ONE_WAY: [&[u16]; 4] = [&[1, 2], &[0], &[3], &[]];
 
-/// The first of these meshes, with starts that fall at 2.
-fn falling() -> Flat {
-    let mut mesh = searched(&ISLAND);
+/// Such a mesh with starts that fall at 2.
+fn falling(lists: &[&[u16]]) -> Flat {
+    let mut mesh = searched(lists);
     fall(&mut mesh.starts, 2);
     mesh
 }
@@ -1994,7 +2019,7 @@ fn searches_by_hand() -> Records {
                 (3, 0, [12; 2], no_path),
             ],
         ),
-        of(&falling(), &[(9, 0, [15; 2], Err(Reason::fall(2)))]),
+        of(&falling(&ISLAND), &[(9, 0, [15; 2], Err(Reason::fall(2)))]),
         of(
             &Lattice::new(1).lists.flat(),
             &[
@@ -2054,7 +2079,7 @@ fn lists_by_hand() -> Records {
                 (3, 9, [12, 4], Ok(&[3])),
             ],
         ),
-        of(&falling(), &[(9, 1, [15, 5], Err(Reason::fall(2)))]),
+        of(&falling(&ISLAND), &[(9, 1, [15, 5], Err(Reason::fall(2)))]),
         of(
             &Lattice::new(1).lists.flat(),
             &[
@@ -2162,6 +2187,159 @@ fn vertices_within() -> Records {
         let calls = (0..SEARCHES).map(|_| within()).collect();
         records.push(lists_within_beside(&mesh, calls));
     }
+    records
+}
+
+/// What a walk over all islands numbers: the ids in their new order, the first number of each island,
+/// and how many entries are read.
+#[derive(Default)]
+struct Islands {
+    queue: Vec<u32>,
+    starts: Vec<u32>,
+    entries_read: u32,
+}
+
+impl Islands {
+    /// The new id at each old one.
+    fn order(&self) -> Vec<u32> {
+        let mut order = vec![0; self.queue.len()];
+        for (new, &old) in (0..).zip(&self.queue) {
+            order[old as usize] = new;
+        }
+        order
+    }
+}
+
+/// Each island as the Rust walks the mesh of what the islands before it leave.
+fn islands_beside(lists: &[Vec<u16>]) -> Islands {
+    let mut found = Islands::default();
+    for island in islands::of_what_is_left(lists) {
+        found.starts.push(found.queue.len() as u32);
+        found.queue.extend(island.iter().map(|&id| id as u32));
+        let read: usize = island.iter().map(|&id| lists[id].len()).sum();
+        found.entries_read += read as u32;
+    }
+    found
+}
+
+/// Walks over all islands of a mesh: the lengths of order, queue and the islands' starts, and what is
+/// found.
+fn island_walks(mesh: &Flat, calls: &[([usize; 3], Result<&Islands, Reason>)]) -> Record {
+    let record = searched_record(mesh, calls.len());
+    let nothing = Islands::default();
+    calls.iter().fold(record, |record, (places, found)| {
+        let counts = found.map(|islands| [islands.starts.len() as u32, islands.entries_read]);
+        let filled = found.unwrap_or(&nothing);
+        record
+            .lengths(places)
+            .found(ISLANDS, counts)
+            .numbers(&over(U32_BEFORE, places[0], &filled.order()))
+            .numbers(&over(U32_BEFORE, places[1], &filled.queue))
+            .numbers(&over(U32_BEFORE, places[2], &filled.starts))
+    })
+}
+
+/// The same with what is found beside the engine: one place a vertex is asked of each slice.
+fn island_walks_beside(mesh: &Flat, places: &[[usize; 3]]) -> Record {
+    let row = adjacency_row(mesh);
+    let islands = match row {
+        Some(_) => Islands::default(),
+        None => islands_beside(&mesh.lists().neighbors),
+    };
+    let answered = |places: &[usize; 3]| {
+        let is_short = places.iter().any(|&length| length < mesh.count());
+        let row = row.or(is_short.then_some(Reason::row(8)));
+        (*places, row.map_or(Ok(&islands), Err))
+    };
+    island_walks(mesh, &places.iter().map(answered).collect::<Vec<_>>())
+}
+
+/// Neighbour lists by hand: islands of two, three and one; two of two; three of one; and four whose
+/// neighbours are not mutual.
+const APART: [&[u16]; 6] = [&[4], &[3, 2], &[1], &[1], &[0], &[]];
+const ACROSS: [&[u16]; 4] = [&[3], &[2], &[1], &[0]];
+const NO_NEIGHBOURS: [&[u16]; 3] = [&[], &[], &[]];
+const LATER_NAMES_EARLIER: [&[u16]; 4] = [&[1], &[0], &[], &[2]];
+const SECOND_NAMES_FIRST: [&[u16]; 2] = [&[], &[0]];
+const ROUND: [&[u16]; 3] = [&[2], &[], &[1]];
+const LAST_NAMES_FIRST: [&[u16]; 3] = [&[1], &[0], &[0]];
+
+/// Walks over all islands worked out by hand: queue, starts, entries read; then the lattice of frequency
+/// 1, and starts that fall, with slices too short.
+fn islands_by_hand() -> Records {
+    let of = |queue: &[u32], starts: &[u32], entries_read| Islands {
+        queue: queue.to_vec(),
+        starts: starts.to_vec(),
+        entries_read,
+    };
+    let room = Err(Reason::row(8));
+    let islands = of(&[0, 4, 1, 3, 2, 5], &[0, 2, 5], 6);
+    let mut records: Records = [
+        &[([6, 6, 6], Ok(&islands)), ([6, 6, 5], room)][..],
+        &[
+            ([7, 8, 9], Ok(&islands)),
+            ([6, 5, 6], room),
+            ([5, 6, 6], room),
+        ],
+    ]
+    .map(|calls| island_walks(&searched(&APART), calls))
+    .into();
+    let others: [(&[&[u16]], Islands); 6] = [
+        (&ACROSS, of(&[0, 3, 1, 2], &[0, 2], 4)),
+        (&NO_NEIGHBOURS, of(&[0, 1, 2], &[0, 1, 2], 0)),
+        (&LATER_NAMES_EARLIER, of(&[0, 1, 2, 3], &[0, 2, 3], 3)),
+        (&SECOND_NAMES_FIRST, of(&[0, 1], &[0, 1], 1)),
+        (&ROUND, of(&[0, 2, 1], &[0], 2)),
+        (&LAST_NAMES_FIRST, of(&[0, 1, 2], &[0, 2], 3)),
+    ];
+    records.extend(others.iter().map(|(lists, islands)| {
+        let places = [lists.len(); 3];
+        island_walks(&searched(lists), &[(places, Ok(islands))])
+    }));
+    let lattice = of(&[0, 1, 2, 3, 6, 7, 5, 10, 4, 8, 11, 9], &[0], 60);
+    let flat = Lattice::new(1).lists.flat();
+    records.push(island_walks(&flat, &[([12; 3], Ok(&lattice))]));
+    let falling = falling(&APART);
+    records.push(island_walks(&falling, &[([0; 3], Err(Reason::fall(2)))]));
+    records
+}
+
+/// Lattices of frequency 1 side by side, renumbered at random.
+fn side_by_side(random: &mut Random) -> Flat {
+    let lattice = Lattice::new(1).lists;
+    let whole = islands::side_by_side(&[&lattice; SIDE_BY_SIDE]);
+    unplaced(islands::renumbered(random, &whole).neighbors)
+}
+
+/// Up to 20 vertices, and random pairs of neighbours, at most as many as vertices: a pair may come
+/// again, or be a vertex and itself.
+fn mutual(random: &mut Random) -> Flat {
+    let count = 1 + random.below(20);
+    let mut neighbors = vec![Vec::new(); count as usize];
+    for _ in 0..random.below(count + 1) {
+        let [v, w] = [0; 2].map(|_| random.below(count));
+        neighbors[v as usize].push(w as u16);
+        if v != w {
+            neighbors[w as usize].push(v as u16);
+        }
+    }
+    unplaced(neighbors)
+}
+
+/// Walks over all islands by hand; of a lattice and a path; of lattices side by side; of random meshes
+/// whose neighbours are mutual, and of such as are searched.
+fn walk_islands() -> Records {
+    let mut records = islands_by_hand();
+    let mut random = Random::new(116);
+    let mut meshes = vec![Lattice::new(2).lists.flat(), path(PATH as u16)];
+    meshes.extend((0..UNIONS).map(|_| side_by_side(&mut random)));
+    meshes.extend((0..MUTUAL).map(|_| mutual(&mut random)));
+    meshes.extend(searched_meshes(&mut random));
+    records.extend(meshes.iter().map(|mesh| {
+        let mut places = || [0; 3].map(|_| about(&mut random, mesh.count()));
+        let calls: Vec<[usize; 3]> = (0..WALKS).map(|_| places()).collect();
+        island_walks_beside(mesh, &calls)
+    }));
     records
 }
 

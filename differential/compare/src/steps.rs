@@ -191,7 +191,7 @@ fn compare_walk(tally: &mut Tally, lists: &Lists, mesh: &Flat, from: usize, surp
     tally.compare(Judge::Beside, same, describe);
 }
 
-fn described(lists: &Lists) -> String {
+pub fn described(lists: &Lists) -> String {
     match lists.neighbors.len() {
         0..=42 => format!("{:?}", lists.neighbors),
         count => format!("a mesh of {count} vertices"),
@@ -321,7 +321,7 @@ fn random_meshes(tally: &mut Tally) {
 }
 
 /// The least lengths of paths for all pairs (Floyd and Warshall), which are found without a walk.
-fn least_lengths(neighbors: &[Vec<u16>]) -> Vec<Vec<Option<u32>>> {
+pub fn least_lengths(neighbors: &[Vec<u16>]) -> Vec<Vec<Option<u32>>> {
     let count = neighbors.len();
     let far = u32::MAX / 2;
     let mut least = vec![vec![far; count]; count];
@@ -467,24 +467,27 @@ fn whole_lattices(tally: &mut Tally) {
     }
 }
 
-/// Up to 12 vertices, whose lists hold any ids, up to as many as are drawn for the mesh.
 fn small_meshes(tally: &mut Tally) {
     let mut random = Random::new(253);
     let mut kinds = Kinds::default();
     for _ in 0..SMALL_MESHES {
-        let count = 1 + random.below(12);
-        let most = [1, 2, 3, 6, 32][some(&mut random, 5)];
-        let mut list = || -> Vec<u16> {
-            let length = random.below(most + 1);
-            (0..length).map(|_| random.below(count) as u16).collect()
-        };
-        let lists = Lists {
-            neighbors: (0..count).map(|_| list()).collect(),
-            vertices: vec![[1.0, 2.0, 3.0]; count as usize],
-        };
-        compare_all(tally, &lists, &mut kinds);
+        compare_all(tally, &small_mesh(&mut random), &mut kinds);
     }
     kinds.all_reached(tally);
+}
+
+/// Up to 12 vertices, whose lists hold any ids, up to as many as are drawn for the mesh.
+pub fn small_mesh(random: &mut Random) -> Lists {
+    let count = 1 + random.below(12);
+    let most = [1, 2, 3, 6, 32][some(random, 5)];
+    let mut list = || -> Vec<u16> {
+        let length = random.below(most + 1);
+        (0..length).map(|_| random.below(count) as u16).collect()
+    };
+    Lists {
+        neighbors: (0..count).map(|_| list()).collect(),
+        vertices: vec![[1.0, 2.0, 3.0]; count as usize],
+    }
 }
 
 /// As many vertices as row 2 lets pass: a path, whose ends are 65,535 steps apart, and a ring in
@@ -584,7 +587,7 @@ const BY_HAND: [(&[&[u16]], &[Pair], &[Front]); 3] = [
     ),
 ];
 
-fn of_lists(neighbors: &[&[u16]]) -> Lists {
+pub fn of_lists(neighbors: &[&[u16]]) -> Lists {
     Lists {
         vertices: vec![[1.0, 2.0, 3.0]; neighbors.len()],
         neighbors: neighbors.iter().map(|list| list.to_vec()).collect(),
@@ -685,7 +688,7 @@ fn starts_by_hand(tally: &mut Tally) {
     }
 }
 
-fn some(random: &mut Random, length: usize) -> usize {
+pub fn some(random: &mut Random, length: usize) -> usize {
     random.below(length as u64) as usize
 }
 
@@ -702,7 +705,7 @@ fn vertex(random: &mut Random, count: usize) -> u32 {
 }
 
 /// From a place too few to two too many, as a rule.
-fn places(random: &mut Random, needed: usize) -> usize {
+pub fn places(random: &mut Random, needed: usize) -> usize {
     match random.below(8) {
         0 => some(random, needed + 1),
         _ => (needed + 2).saturating_sub(some(random, 4)),
@@ -710,7 +713,7 @@ fn places(random: &mut Random, needed: usize) -> usize {
 }
 
 /// A mesh that its rows let pass in one case of two, or damaged.
-fn some_mesh(random: &mut Random) -> Flat {
+pub fn some_mesh(random: &mut Random) -> Flat {
     let mut mesh = Lists::random(random).flat();
     for _ in 0..random.below(4).saturating_sub(1) {
         damage(random, &mut mesh);
@@ -754,7 +757,7 @@ fn refusals_within(tally: &mut Tally) {
     starts.all_reached(tally);
 }
 
-fn owning(mesh: &Flat) -> MeshData {
+pub fn owning(mesh: &Flat) -> MeshData {
     let Flat {
         positions,
         starts,

@@ -27,7 +27,7 @@ pub fn checks() -> Vec<Check> {
 /// What a call leaves: its answer and both slices.
 pub type Outcome = (Result<u32, Reason>, Vec<u32>, Vec<u32>);
 
-fn walked(mesh: &Flat, order_places: usize, queue_places: usize) -> Outcome {
+pub fn walked(mesh: &Flat, order_places: usize, queue_places: usize) -> Outcome {
     let (mut order, mut queue) = (vec![BEFORE; order_places], vec![BEFORE; queue_places]);
     let answer = koshirga::bfs_vertex_permutation(mesh.as_mesh(), &mut order, &mut queue);
     (answer.map_err(Reason::from), order, queue)

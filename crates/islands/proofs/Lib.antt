@@ -1,0 +1,13 @@
+pub mod Renamed
+pub mod Alone
+pub mod Numbered
+pub mod Mutual
+pub mod Starts
+pub mod Behind
+pub mod Outcome
+pub mod AsMesh
+pub mod Cases
+pub mod OneOrSeveral
+pub mod Theorems
+pub mod Parts
+pub mod ByItself

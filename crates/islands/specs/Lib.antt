@@ -1,0 +1,3 @@
+pub mod Islands
+pub mod Outcomes
+pub mod Laws
