@@ -34,13 +34,13 @@ pub record IslandsLeft : Type 0 where
   pub answer : IslandsAnswer
   pub order : List ℕ
   pub queue : List ℕ
-  pub starts : List ℕ
+  pub island_starts : List ℕ
 
 abbrev pub islands_left : IslandsAnswer → List ℕ → List ℕ → List ℕ → IslandsLeft
-islands_left answer order queue starts = record { answer = answer; order = order; queue = queue; starts = starts }
+islands_left answer order queue island_starts = record { answer = answer; order = order; queue = queue; island_starts = island_starts }
 
 abbrev pub islands_left_of : IslandsOutcome → IslandsLeft
-islands_left_of outcome = islands_left (islands_answer outcome.answered) outcome.order outcome.queue outcome.starts
+islands_left_of outcome = islands_left (islands_answer outcome.answered) outcome.order outcome.queue outcome.island_starts
 
 -- The answer of a call that lists the vertices within so many steps, and the list.
 pub record WithinLeft : Type 0 where

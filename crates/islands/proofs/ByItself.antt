@@ -101,7 +101,7 @@ module _ (m : Mesh) (order queue starts : List ℕ) (found : IslandCount) (both 
       let reached = (walk_follows_paths m p.root accepted.checked.rows p.is_root.there).reached in
       let here : Memᴰ v (island n found.islands outcome r.0) = subst (Memᴰ v) (sym (island_of_found r.0)) r.2 in
       let forth = (reached v).0 (subst (Memᴰ v) (island_walk r.0 li) here) in
-      (r.0, li, here, subst (Memᴰ w) (sym (island_walk r.0 li)) ((reached w).1 (path.0 + forth.0, paths_joined lists forth.1 path.1)))
+      (r.0, li, here, subst (Memᴰ w) (sym (island_walk r.0 li)) ((reached w).1 (path.0 + forth.0, paths_joined lists {j = forth.0} forth.1 path.1)))
 
 pub island_is_walk : IslandIsWalk
 island_is_walk m order queue starts found both e i lt = its_walk m order queue starts found both e i lt

@@ -19,23 +19,23 @@ use Rattle.islands.specs.Outcomes.{IslandsOutcome, islands_outcome, walk_islands
 
 -- ---- what is accepted
 -- All rows pass: rows 2 to 4, and each slice has one place a vertex.
-pub record IslandsChecked (m : Mesh) (order queue starts : List ℕ) : Type 0 where
+pub record IslandsChecked (m : Mesh) (order queue island_starts : List ℕ) : Type 0 where
   pub rows : adjacency_rows m ≡ Ok tt
   pub order_room : count m ≤ length order
   pub queue_room : count m ≤ length queue
-  pub starts_room : count m ≤ length starts
+  pub starts_room : count m ≤ length island_starts
 
 -- Nothing else is asked: every vertex is numbered, so that none is left for row 13 to refuse.
 abbrev pub CheckedIsAccepted : Type 0
-CheckedIsAccepted = (m : Mesh) (order queue starts : List ℕ)
-    → ((found : IslandCount) × ((walk_islands m order queue starts).answered ≡ Ok found)) ↔ IslandsChecked m order queue starts
+CheckedIsAccepted = (m : Mesh) (order queue island_starts : List ℕ)
+    → ((found : IslandCount) × ((walk_islands m order queue island_starts).answered ≡ Ok found)) ↔ IslandsChecked m order queue island_starts
 
 abbrev pub NeverUnreached : Type 0
-NeverUnreached = (m : Mesh) (order queue starts : List ℕ) → (walk_islands m order queue starts).answered ≢ Err Unreached
+NeverUnreached = (m : Mesh) (order queue island_starts : List ℕ) → (walk_islands m order queue island_starts).answered ≢ Err Unreached
 
 abbrev pub RefusedLeavesSlices : Type 0
-RefusedLeavesSlices = (m : Mesh) (order queue starts : List ℕ) (reason : Refusal) → let outcome = walk_islands m order queue starts in
-    outcome.answered ≡ Err reason → outcome ≡ islands_outcome (Err reason) order queue starts
+RefusedLeavesSlices = (m : Mesh) (order queue island_starts : List ℕ) (reason : Refusal) → let outcome = walk_islands m order queue island_starts in
+    outcome.answered ≡ Err reason → outcome ≡ islands_outcome (Err reason) order queue island_starts
 
 -- ---- all vertices are numbered
 -- Order and queue are permutations of all ids, each the other's inverse, and all entries were read; surplus places stay.
@@ -45,7 +45,7 @@ pub record AllNumbered (m : Mesh) (order queue : List ℕ) (found : IslandCount)
   pub queue_surplus : drop (count m) outcome.queue ≡ drop (count m) queue
 
 abbrev pub EveryVertexNumbered : Type 0
-EveryVertexNumbered = (m : Mesh) (order queue starts : List ℕ) (found : IslandCount) → let outcome = walk_islands m order queue starts in
+EveryVertexNumbered = (m : Mesh) (order queue island_starts : List ℕ) (found : IslandCount) → let outcome = walk_islands m order queue island_starts in
     outcome.answered ≡ Ok found → AllNumbered m order queue found outcome
 
 -- ---- where islands start
@@ -59,26 +59,26 @@ pub record IslandStarts (n islands : ℕ) (old starts : List ℕ) : Type 0 where
   pub behind : drop islands starts ≡ drop islands old
 
 abbrev pub StartsAscend : Type 0
-StartsAscend = (m : Mesh) (order queue starts : List ℕ) (found : IslandCount) → let outcome = walk_islands m order queue starts in
-    outcome.answered ≡ Ok found → IslandStarts (count m) found.islands starts outcome.starts
+StartsAscend = (m : Mesh) (order queue island_starts : List ℕ) (found : IslandCount) → let outcome = walk_islands m order queue island_starts in
+    outcome.answered ≡ Ok found → IslandStarts (count m) found.islands island_starts outcome.island_starts
 
 -- The root of an island: the id that has its first number.
 abbrev pub island_root : IslandsOutcome → ℕ → ℕ
-island_root outcome i = slice_index outcome.queue (slice_index outcome.starts i)
+island_root outcome i = slice_index outcome.queue (slice_index outcome.island_starts i)
 
 -- It is the lowest id that has no number of an earlier island: all lower ids have one.
 abbrev pub RootsAreLowest : Type 0
-RootsAreLowest = (m : Mesh) (order queue starts : List ℕ) (found : IslandCount) → let outcome = walk_islands m order queue starts in
-    outcome.answered ≡ Ok found → (i : ℕ) → i < found.islands → (v : ℕ) → v < island_root outcome i → slice_index outcome.order v < slice_index outcome.starts i
+RootsAreLowest = (m : Mesh) (order queue island_starts : List ℕ) (found : IslandCount) → let outcome = walk_islands m order queue island_starts in
+    outcome.answered ≡ Ok found → (i : ℕ) → i < found.islands → (v : ℕ) → v < island_root outcome i → slice_index outcome.order v < slice_index outcome.island_starts i
 
 -- ---- each island by itself
 -- The ids of island i, over n vertices, in the order of their numbers: those of the queue from its start to the next, or to the last number.
 abbrev pub island : ℕ → ℕ → IslandsOutcome → ℕ → List ℕ
-island n islands outcome i = part (take islands outcome.starts ++ (n ∷ [])) (take n outcome.queue) i
+island n islands outcome i = part (take islands outcome.island_starts ++ (n ∷ [])) (take n outcome.queue) i
 
 -- Where neighbours are mutual: the complete walk from the island's root, over the same lists.
 abbrev pub IslandIsWalk : Type 0
-IslandIsWalk = (m : Mesh) (order queue starts : List ℕ) (found : IslandCount) → let outcome = walk_islands m order queue starts in
+IslandIsWalk = (m : Mesh) (order queue island_starts : List ℕ) (found : IslandCount) → let outcome = walk_islands m order queue island_starts in
     Mutual m → outcome.answered ≡ Ok found → (i : ℕ) → i < found.islands
     → island (count m) found.islands outcome i ≡ (walk_from (count m) (neighbours m) (island_root outcome i)).queue
 
@@ -96,7 +96,7 @@ pub record OrdinaryWalk (own : Mesh) (ids order queue numbered : List ℕ) : Typ
   pub same_order : length ids ≤ length order → length ids ≤ length queue → map (slice_index ids) (take (length ids) (bfs_vertex_permutation own order queue).queue) ≡ numbered
 
 abbrev pub IslandIsMesh : Type 0
-IslandIsMesh = (m : Mesh) (order queue starts : List ℕ) (found : IslandCount) (own_order own_queue : List ℕ) → let outcome = walk_islands m order queue starts in
+IslandIsMesh = (m : Mesh) (order queue island_starts : List ℕ) (found : IslandCount) (own_order own_queue : List ℕ) → let outcome = walk_islands m order queue island_starts in
     Mutual m → outcome.answered ≡ Ok found → (i : ℕ) → i < found.islands
     → let numbered = island (count m) found.islands outcome i in OrdinaryWalk (mesh_alone m (sort numbered)) (sort numbered) own_order own_queue numbered
 
@@ -106,26 +106,26 @@ SharesIsland n islands outcome v w = (i : ℕ) × (i < islands) × Memᴰ v (isl
 
 -- Where neighbours are mutual, exactly those that a path joins.
 abbrev pub PathsJoin : Type 0
-PathsJoin = (m : Mesh) (order queue starts : List ℕ) (found : IslandCount) (v w : ℕ) → let outcome = walk_islands m order queue starts in
+PathsJoin = (m : Mesh) (order queue island_starts : List ℕ) (found : IslandCount) (v w : ℕ) → let outcome = walk_islands m order queue island_starts in
     Mutual m → outcome.answered ≡ Ok found → v < count m → w < count m
     → SharesIsland (count m) found.islands outcome v w ↔ ((k : ℕ) × PathTo (neighbours m) v w k)
 
 -- ---- the ordinary walk beside it
 -- Where a path leads from vertex 0 to every vertex, both calls leave the same order and queue and read as much, and there is one island.
 abbrev pub OneIslandIsTheWalk : Type 0
-OneIslandIsTheWalk = (m : Mesh) (order queue starts : List ℕ) → let walked = bfs_vertex_permutation m order queue in
-    IslandsChecked m order queue starts → ((v : ℕ) → v < count m → (k : ℕ) × PathTo (neighbours m) 0 v k)
+OneIslandIsTheWalk = (m : Mesh) (order queue island_starts : List ℕ) → let walked = bfs_vertex_permutation m order queue in
+    IslandsChecked m order queue island_starts → ((v : ℕ) → v < count m → (k : ℕ) × PathTo (neighbours m) 0 v k)
     → (walked.answered ≡ Ok (length m.entries))
-    × (walk_islands m order queue starts ≡ islands_outcome (Ok (record { islands = 1; entries_read = length m.entries })) walked.order walked.queue (overwrite (0 ∷ []) starts))
+    × (walk_islands m order queue island_starts ≡ islands_outcome (Ok (record { islands = 1; entries_read = length m.entries })) walked.order walked.queue (overwrite (0 ∷ []) island_starts))
 
 -- Row 13 refuses the ordinary walk exactly where there are several.
 abbrev pub SeveralAreUnreached : Type 0
-SeveralAreUnreached = (m : Mesh) (order queue starts : List ℕ) (found : IslandCount)
-    → (walk_islands m order queue starts).answered ≡ Ok found → (1 < found.islands) ↔ ((bfs_vertex_permutation m order queue).answered ≡ Err Unreached)
+SeveralAreUnreached = (m : Mesh) (order queue island_starts : List ℕ) (found : IslandCount)
+    → (walk_islands m order queue island_starts).answered ≡ Ok found → (1 < found.islands) ↔ ((bfs_vertex_permutation m order queue).answered ≡ Err Unreached)
 
 -- ---- the index of a refusal
 abbrev pub IslandsIndex : Type 0
-IslandsIndex = (m : Mesh) (order queue starts : List ℕ) (reason : Refusal) → (walk_islands m order queue starts).answered ≡ Err reason → IndexTold m.starts reason
+IslandsIndex = (m : Mesh) (order queue island_starts : List ℕ) (reason : Refusal) → (walk_islands m order queue island_starts).answered ≡ Err reason → IndexTold m.starts reason
 
 -- ---- worked cases
 -- The walk over a mesh with these lists, in slices that have one place a vertex, all of them 77.
@@ -134,7 +134,7 @@ walked_over lists = let lent = replicate (length lists) 77 in walk_islands (mesh
 
 -- So many islands, and so many entries read.
 abbrev pub numbered_as : ℕ → ℕ → List ℕ → List ℕ → List ℕ → IslandsOutcome
-numbered_as islands entries_read order queue starts = islands_outcome (Ok (record { islands = islands; entries_read = entries_read })) order queue starts
+numbered_as islands entries_read order queue island_starts = islands_outcome (Ok (record { islands = islands; entries_read = entries_read })) order queue island_starts
 
 abbrev pub three_islands : List (List ℕ)
 three_islands = (4 ∷ []) ∷ (3 ∷ 2 ∷ []) ∷ (1 ∷ []) ∷ (1 ∷ []) ∷ (0 ∷ []) ∷ [] ∷ []

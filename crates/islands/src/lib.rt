@@ -4,7 +4,7 @@
 
 pub mod laws;
 
-ghost use Rattle.std.specs.Prelude.{◌^◌, ◌≤◌, ◌<◌, ◌≡◌, [], ◌∷◌, ◌++◌, length, take, get_or};
+ghost use Rattle.std.specs.Prelude.{◌^◌, ◌≤◌, ◌<◌, ◌≡◌, [], ◌∷◌, ◌++◌, length, take, slice_index};
 ghost use Rattle.mesh.specs.Mesh.{neighbours};
 ghost use Rattle.walk.specs.Walk.{unreached};
 ghost use Rattle.walk.specs.Buffers.{Holding, Walkable, Continued};
@@ -42,7 +42,7 @@ fn walk_island(
     requires walkable { Walkable mesh.now.starts mesh.now.entries order.old queue.old }
     requires held { Holding (length order.old) (take reached queue.old) queue.old reached order.old queue.old }
     requires there { root < length order.old }
-    requires unnumbered { get_or order.old root 0 ≡ unreached }
+    requires unnumbered { slice_index order.old root ≡ unreached }
     ensures { Continued (length order.old) (neighbours mesh.now) (take reached queue.old ++ (root ∷ [])) reached (length order.old) queue.old result order.new queue.new }
 {
     order[root] = reached as u32;
