@@ -19,7 +19,7 @@ use Rattle.master_face.specs.MasterFace.{master_face_of}
 use Rattle.analytic.specs.FaceChoice.{signs_of, outside_first, flag_sum, flags_fit, mapped_face, choose_face, face_choice_of}
 use Rattle.analytic.specs.SubTriangle.{SubTriangle, sub_triangle_on}
 use Rattle.analytic.specs.Laws.{TripleBelow}
-use Rattle.analytic.specs.Location.{corner_ids, triple_below, located, locate_on, query_rows, analytic_locate, last_greatest, corner_of, analytic_nearest}
+use Rattle.analytic.specs.Location.{corner_ids, triple_below, triple_located, locate_on, query_rows, analytic_locate, last_greatest, corner_of, analytic_nearest}
 
 -- ---- the choice of a face
 -- an answer behind one row was accepted exactly where the row passed
@@ -81,7 +81,7 @@ unfolding locate_on
 located_on_below n ids face p l e =
     let t = sub_triangle_on n (master_face_of face) p in
     let triple = corner_ids n ids face t in
-    let k = by_row_accepted (triple_below (lattice_vertex_count n) triple) Id (located triple t.weights) l e in
+    let k = by_row_accepted (triple_below (lattice_vertex_count n) triple) Id (triple_located triple t.weights) l e in
     let same : l.triple ≡ triple = ap (λ (x : Located). x.triple) k.1 in
     rw same (triple_below_lem (lattice_vertex_count n) triple k.0)
 
@@ -125,7 +125,7 @@ direction_refused v reason e = by_row_refused (admissible v) Direction reason v 
 pub answered : (n m table_n : ℕ) (ids table_ids : List ℕ) (v p : Vector3) (face : ℕ) (t : SubTriangle) (triple : Triple) (below : Bool)
     → ◌≡◌ {A = Result ℕ Refusal} (Ok m) (frequency_of n) → table_n ≡ m → table_ids ≡ ids → leb (20 * slots_per_face m) (length ids) ≡ true → Ok p ≡ direction_of v → Ok face ≡ face_choice_of p
     → t ≡ sub_triangle_on m (master_face_of face) p → triple ≡ corner_ids table_n table_ids face t → below ≡ triple_below (lattice_vertex_count m) triple
-    → answer (row below Id (Ok tt)) Err (Ok (located triple t.weights)) ≡ analytic_locate n ids v
+    → answer (row below Id (Ok tt)) Err (Ok (triple_located triple t.weights)) ≡ analytic_locate n ids v
 unfolding locate_on
 answered n m table_n ids table_ids v p face t triple below frequency same_n same_ids room direction choice is_t is_triple is_below =
     let f = frequency_passed n m frequency in

@@ -26,15 +26,15 @@ corner_ids n ids face t = record { first = id_at n ids face t.corners.first; sec
 unfoldable pub triple_below : ℕ → Triple → Bool
 triple_below count t = nat_lt t.first count && nat_lt t.second count && nat_lt t.third count
 
-abbrev pub located : Triple → Weights → Located
-located triple weights = record { triple = triple; weights = weights }
+abbrev pub triple_located : Triple → Weights → Located
+triple_located triple weights = record { triple = triple; weights = weights }
 
 -- the answer on a face: row 4, then the triple and its weights
 unfoldable pub locate_on : ℕ → List ℕ → ℕ → Vector3 → Result Located Refusal
 locate_on n ids face p =
     let t = sub_triangle_on n (master_face_of face) p in
     let triple = corner_ids n ids face t in
-    answer (row (triple_below (lattice_vertex_count n) triple) Id (Ok tt)) Err (Ok (located triple t.weights))
+    answer (row (triple_below (lattice_vertex_count n) triple) Id (Ok tt)) Err (Ok (triple_located triple t.weights))
 
 -- "An analytic query checks the frequency, the id table's length (8), the direction, 10, then the three ids that it reads (4)." The rows before the last:
 unfoldable pub query_rows : ℕ → List ℕ → Vector3 → Verdict

@@ -56,7 +56,8 @@ struct Scaled {
 
 // x * y, exactly. The factors are halved, which leaves a sum room to carry; their last bits are 0.
 fn exact_product(x: Unpacked, y: Unpacked) -> Scaled
-    requires nonzero { (0 < x.significand) × (0 < y.significand) }
+    requires first_nonzero { 0 < x.significand }
+    requires second_nonzero { 0 < y.significand }
     ensures sign { result.number.negative ≡ unlike x.negative y.negative }
     ensures exact { value result.number.words * 2 ^ result.exponent ≡ x.significand * 2 ^ x.exponent * (y.significand * 2 ^ y.exponent) * 2 ^ (product_scale - unpacked_scale - unpacked_scale) }
 {

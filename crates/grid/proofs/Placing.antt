@@ -9,7 +9,7 @@ use Rattle.binary64.proofs.Tests.{leb_alike}
 use Rattle.binary64.specs.Convert.{to_i64}
 use Rattle.vector.specs.declared.Vector3.{Vector3}
 use Rattle.grid.specs.declared.cube_face.Projected.{Projected}
-use Rattle.std.specs.declared.ops.Range.{Range}
+use Rattle.grid.specs.declared.placement.CellRange.{CellRange}
 use Rattle.grid.specs.declared.placement.Placement.{Placement}
 use Rattle.binary64.specs.Constants.{positive_zero}
 use Rattle.grid.specs.CubeFace.{face_projection}
@@ -19,7 +19,7 @@ use Rattle.grid.specs.Held.{held_on}
 use Rattle.grid.specs.Placing.{CellsBelow, Near, Placed, within}
 use Rattle.grid.proofs.Held.{held_behind}
 
-abbrev range : ℕ → ℕ → Range ℕ
+abbrev range : ℕ → ℕ → CellRange
 range first end = record { start = first; end = end }
 
 and_alike : {p q r s : Bool} → p ≡ r → q ≡ s → (p && q) ≡ (r && s)
@@ -82,16 +82,16 @@ near_inside margin g k first end at_first ordered inside limit at-end = record {
     upper c lt (inr e) = leb_alike (suc c) end c (k + margin) (λ h. omega arith) (λ h. omega arith)
 
 -- some range is that of a whole number
-near_range : (margin g : ℕ) (z : ℤ) → (r : Range ℕ) × Near margin g z r
+near_range : (margin g : ℕ) (z : ℤ) → (r : CellRange) × Near margin g z r
 near_range margin g (negsuc k) = go (dec_lt margin (suc k)) (dec_lt g (margin - k))
   where
-    go : Dec (margin < suc k) → Dec (g < margin - k) → (r : Range ℕ) × Near margin g (negsuc k) r
+    go : Dec (margin < suc k) → Dec (g < margin - k) → (r : CellRange) × Near margin g (negsuc k) r
     go (yes far) cut = (range 0 0, near_none_below margin g k far)
     go (no close) (yes cut) = (range 0 g, near_below margin g k g (omega arith) (omega arith) (omega arith) (inr refl))
     go (no close) (no whole) = (range 0 (margin - k), near_below margin g k (margin - k) (omega arith) (omega arith) (omega arith) (inl refl))
 near_range margin g (pos k) = go (dec_lt k (g + margin)) (dec_lt g (k + margin + 1))
   where
-    go : Dec (k < g + margin) → Dec (g < k + margin + 1) → (r : Range ℕ) × Near margin g (pos k) r
+    go : Dec (k < g + margin) → Dec (g < k + margin + 1) → (r : CellRange) × Near margin g (pos k) r
     go (no far) cut = (range g g, near_none_above margin g k (omega arith))
     go (yes close) (yes cut) = (range (k - margin) g, near_inside margin g k (k - margin) g refl (omega arith) (omega arith) (omega arith) (inr refl))
     go (yes close) (no whole) = (range (k - margin) (k + margin + 1), near_inside margin g k (k - margin) (k + margin + 1) refl (omega arith) (omega arith) (omega arith) (inl refl))
@@ -134,11 +134,11 @@ module _ (margin g face i j : ℕ) (li : i < g) (lj : j < g) where
   unfolding placed_in
   placed_by_face v = rw (face_of_cell, row_of_cell, column_of_cell) refl
 
-abbrev placement : Range ℕ → Range ℕ → ℕ → Placement
+abbrev placement : CellRange → CellRange → ℕ → Placement
 placement rows columns held = record { rows = rows; columns = columns; held = held }
 
 -- a face that the vertex is in front of
-pub placed_near : (margin g face : ℕ) (v : Vector3) (p : Projected) (rows columns : Range ℕ) (held : ℕ) → p ≡ face_projection face v → lt positive_zero p.d ≡ true
+pub placed_near : (margin g face : ℕ) (v : Vector3) (p : Projected) (rows columns : CellRange) (held : ℕ) → p ≡ face_projection face v → lt positive_zero p.d ≡ true
     → Near margin g (to_i64 (across_cells g p.u p.d)) rows → Near margin g (to_i64 (across_cells g p.w p.d)) columns → held ≡ held_on g v face → Placed margin g face v (placement rows columns held)
 placed_near margin g face v p rows columns held e front r c h = record {
   rows_ordered = r.ordered;

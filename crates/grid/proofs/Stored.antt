@@ -1,5 +1,5 @@
 -- What rows 2, 19, 20, 2 and 3 tell of a stored grid: `stored_facts`. Assumes nothing.
-use Rattle.std.proofs.Common.{◌≡◌, suc, ◌+◌, ◌*◌, ◌%◌, ◌≤◌, true, ◌&&◌, eqb, leb, List, length, sym, ap, ◌∙◌, add-one, arith, eqb-true, leb-true}
+use Rattle.std.proofs.Common.{◌≡◌, ℕ, suc, ◌+◌, ◌*◌, ◌%◌, ◌≤◌, true, ◌&&◌, eqb, leb, List, length, sym, refl, ap, ◌∙◌, add-one, arith, eqb-true, leb-true}
 use lib.Ieee.{Float}
 use Rattle.std.proofs.lemmas.Bool.{and_parts}
 use Rattle.std.specs.Prelude.{Ok}
@@ -12,7 +12,7 @@ use Rattle.grid.specs.Settings.{factor_fits, margin_fits, settings_rows}
 use Rattle.grid.specs.Cells.{side_of, cell_count}
 use Rattle.grid.specs.Grid.{Grid}
 use Rattle.grid.specs.Passes.{GridExtent}
-use Rattle.grid.specs.Stored.{side_fits, both_starts_counted, stored_rows}
+use Rattle.grid.specs.Stored.{with_lists, side_fits, both_starts_counted, stored_rows}
 use Rattle.grid.specs.Told.{PassedIsStored}
 use Rattle.grid.proofs.SettingsRows.{settings_then, margin_small}
 use Rattle.grid.proofs.SideBound.{side_bound}
@@ -58,6 +58,11 @@ module _ (grid : Grid) (positions : List Float) where
 
   pub stored_through : (next : Verdict) → stored_rows grid positions (Ok tt) ≡ Ok tt → stored_rows grid positions next ≡ next
   stored_through next h = stored_then (Ok tt) next ∙ ap (λ (v : Verdict). then v next) h
+
+-- ---- whatever the ids and triples are
+pub stored_whatever_lists : (grid : Grid) (positions : List Float) (cell_ids triples : List ℕ) → stored_rows grid positions (Ok tt) ≡ stored_rows (with_lists grid cell_ids triples) positions (Ok tt)
+unfolding side_fits both_starts_counted
+stored_whatever_lists grid positions cell_ids triples = refl
 
 -- ---- what the rows let pass
 pub stored_facts : PassedIsStored

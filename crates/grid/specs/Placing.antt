@@ -1,7 +1,7 @@
 -- What a loop over the cells of a vertex knows of them. Definitions only.
 use Rattle.std.specs.Prelude.{◌≡◌, ℕ, suc, ◌+◌, ◌*◌, ◌<◌, ◌≤◌, min, Bool, ◌&&◌, ℤ, pos, negsuc, nat_le, nat_lt}
 use Rattle.vector.specs.declared.Vector3.{Vector3}
-use Rattle.std.specs.declared.ops.Range.{Range}
+use Rattle.grid.specs.declared.placement.CellRange.{CellRange}
 use Rattle.grid.specs.declared.placement.Placement.{Placement}
 use Rattle.grid.specs.Cells.{near, breadth, placed_in}
 use Rattle.grid.specs.Held.{held_on}
@@ -16,7 +16,7 @@ CellsBelow (pos k) below = Unit {0}
 CellsBelow (negsuc k) below = below ≡ min (suc k) 4
 
 -- The range holds exactly the cells of 0 to g - 1 that are near the whole number z.
-pub record Near (margin g : ℕ) (z : ℤ) (range : Range ℕ) : Type 0 where
+pub record Near (margin g : ℕ) (z : ℤ) (range : CellRange) : Type 0 where
   pub ordered : range.start ≤ range.end
   pub inside : range.end ≤ g
   pub few : range.end ≤ range.start + breadth margin

@@ -20,6 +20,10 @@ lent_grid settings side cell_starts cell_ids triangle_starts triples = record {
   triples = triples;
 }
 
+-- A grid with other cell ids and triples in place of its own.
+abbrev pub with_lists : Grid → List ℕ → List ℕ → Grid
+with_lists grid cell_ids triples = lent_grid grid.settings grid.side grid.cell_starts cell_ids grid.triangle_starts triples
+
 -- Row 2 again refuses a side that is not the one of the count and of the factor that the grid keeps.
 unfoldable pub side_fits : Grid → List Float → Bool
 side_fits grid positions = grid.side == side_of grid.settings.factor (vertex_count positions)

@@ -1,5 +1,5 @@
 // Placing: how far a vertex lies across a face, and the rows and columns of cells that take it in.
-ghost use Rattle.std.specs.Prelude.{◌≡◌, ◌+◌, ◌*◌, ◌<◌, ◌≤◌};
+ghost use Rattle.std.specs.Prelude.{◌≡◌, ◌+◌, ◌-◌, ◌*◌, ◌<◌, ◌≤◌};
 ghost use Rattle.mesh.specs.Rows.{greatest_count};
 ghost use Rattle.grid.specs.Passes.{greatest_side};
 ghost use Rattle.grid.specs.Cells.{cell_count, across_cells};
@@ -10,15 +10,29 @@ use crate::cube_face::cube_face_project;
 use crate::extent::Extent;
 use binary64::{Conversion, to_i64};
 use fused::mul_add_halves;
-use std::ops::Range;
 use vector::Vector3;
 
+// Rows or columns of cells, from the start up to the end, which is not among them. The library's `Range` is no `Copy`.
+#[derive(Clone, Copy)]
+pub struct CellRange {
+    pub start: usize,
+    pub end: usize,
+}
+
+impl CellRange {
+    // How many rows or columns they are.
+    pub(crate) fn len(self) -> usize
+        ensures value { result ≡ self.end - self.start }
+    {
+        self.end.saturating_sub(self.start)
+    }
+}
+
 // The cells of a face that a vertex is placed in: rows and columns. And how many of the conversions that gave them were held at an end of the signed range.
-// A loop goes from a range's start to its end, since the library's ranges are no `Copy`, and `clone` may fail. The columns are gone through once for each row; the rows' range could be moved out, but two loops of one kind would then be written in two ways.
-#[derive(Clone, Drop)]
+#[derive(Clone, Copy)]
 pub struct Placement {
-    pub rows: Range<usize>,
-    pub columns: Range<usize>,
+    pub rows: CellRange,
+    pub columns: CellRange,
     pub held: usize,
 }
 
@@ -58,23 +72,32 @@ fn held_one(how: Conversion) -> usize
 
 impl Extent {
     // The rows or columns that are near the converted coordinate. Near an end of the signed range there are none.
-    fn cells_near(self, coordinate: i64) -> Range<usize>
+    fn cells_near(self, coordinate: i64) -> CellRange
         ensures { Near self.margin self.side coordinate result }
     {
         if coordinate < 0 {
             let below = cells_below(coordinate);
             if below > self.margin {
-                return 0..0;
+                return CellRange { start: 0, end: 0 };
             }
             let reach = self.margin + 1 - below;
-            return 0..reach.min(self.side);
+            return CellRange {
+                start: 0,
+                end: reach.min(self.side),
+            };
         }
         let cell = coordinate as usize;
         if cell >= self.side + self.margin {
-            return self.side..self.side;
+            return CellRange {
+                start: self.side,
+                end: self.side,
+            };
         }
         let reach = cell + self.margin + 1;
-        cell.saturating_sub(self.margin)..reach.min(self.side)
+        CellRange {
+            start: cell.saturating_sub(self.margin),
+            end: reach.min(self.side),
+        }
     }
 
     // The cells of the face that the vertex is placed in. Inlined, so that no placement goes through memory.
@@ -93,8 +116,8 @@ impl Extent {
             }
         } else {
             Placement {
-                rows: 0..0,
-                columns: 0..0,
+                rows: CellRange { start: 0, end: 0 },
+                columns: CellRange { start: 0, end: 0 },
                 held: 0,
             }
         }

@@ -1,7 +1,7 @@
 // The rows of a stored grid, which a call tests before it reads a part of it.
 ghost use Rattle.std.specs.Prelude.{◌≡◌, true, Ok};
 ghost use Rattle.mesh.specs.Rows.{positions_fit};
-ghost use Rattle.grid.specs.Stored.{side_rows, stored_rows};
+ghost use Rattle.grid.specs.Stored.{with_lists, side_rows, stored_rows};
 
 use crate::extent::Extent;
 use crate::settings::Settings;
@@ -31,7 +31,7 @@ impl<'a> Model for StoredGrid<'a> {
 }
 
 impl<'a> StoredGrid<'a> {
-    ghost use Rattle.std.specs.Prelude.{◌≡◌, ◌+◌, ◌&&◌, ◌==◌, Ok, List, Float, length};
+    ghost use Rattle.std.specs.Prelude.{◌≡◌, ℕ, ◌+◌, ◌&&◌, ◌==◌, Ok, List, Float, length};
     ghost use Rattle.grid.specs.Cells.{cell_count};
     ghost use Rattle.grid.specs.Passes.{GridExtent};
     ghost use Rattle.grid.specs.Settings.{settings_rows};
@@ -79,8 +79,10 @@ impl<'a> StoredGrid<'a> {
     }
 
     // Rows 2, 19, 20, 2 and 3, which come before a part of the grid is read. Neither ids nor triples matter to them.
+    #[tactic(auto, using(crate::proofs::Stored::stored_whatever_lists))]
     pub fn check(&self, positions: &[f64]) -> Result<(), Refusal>
-        ensures { result ≡ stored_rows self.now positions.now (Ok tt) }
+        ensures rows { result ≡ stored_rows self.now positions.now (Ok tt) }
+        ensures whatever_lists { (cell_ids triples : List ℕ) → result ≡ stored_rows (with_lists self.now cell_ids triples) positions.now (Ok tt) }
     {
         if !positions_fit(positions) {
             return Err(Refusal::Count);
@@ -131,7 +133,8 @@ impl<'a> StoredGrid<'a> {
     // Whether a stored grid of the usual factor passes these rows; where it says no, `check` finds the row. It is short and takes no root, so that a query of a usual grid isn't held up by a call.
     #[inline(always)]
     pub fn usual_passes(&self, positions: &[f64]) -> bool
-        ensures { result ≡ true → stored_rows self.now positions.now (Ok tt) ≡ Ok tt }
+        ensures rows { result ≡ true → stored_rows self.now positions.now (Ok tt) ≡ Ok tt }
+        ensures whatever_lists { result ≡ true → (cell_ids triples : List ℕ) → stored_rows (with_lists self.now cell_ids triples) positions.now (Ok tt) ≡ Ok tt }
     {
         if !positions_fit(positions) {
             return false;

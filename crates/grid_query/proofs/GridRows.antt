@@ -44,17 +44,17 @@ module _ (grid : Grid) (positions : List Float) (direction : Vector3) where
       ap (stored_rows grid positions) (row_then (admissible direction) Direction v next) ∙ stored_then grid positions (direction_row direction v) next
 
   -- row 9 refuses behind the others
-  pub direction_refused : stored_rows grid positions (Ok tt) ≡ Ok tt → (reason : Refusal) → direction_of direction ≡ Err reason → grid_rows grid positions direction (Ok tt) ≡ Err reason
+  pub query_direction_refused : stored_rows grid positions (Ok tt) ≡ Ok tt → (reason : Refusal) → direction_of direction ≡ Err reason → grid_rows grid positions direction (Ok tt) ≡ Err reason
   unfolding direction_of
-  direction_refused h reason r = stored_through grid positions (direction_row direction (Ok tt)) h ∙ tells (admissible direction) r
+  query_direction_refused h reason r = stored_through grid positions (direction_row direction (Ok tt)) h ∙ tells (admissible direction) r
     where
       tells : (b : Bool) → ◌≡◌ {A = Result Vector3 Refusal} (answer (row b Direction (Ok tt)) Err (Ok direction)) (Err reason) → row b Direction (Ok tt) ≡ Err reason
       tells true e = cc
       tells false e = cc
 
-  pub direction_passed : stored_rows grid positions (Ok tt) ≡ Ok tt → (v : Vector3) → direction_of direction ≡ Ok v → grid_rows grid positions direction (Ok tt) ≡ Ok tt
+  pub query_direction_passed : stored_rows grid positions (Ok tt) ≡ Ok tt → (v : Vector3) → direction_of direction ≡ Ok v → grid_rows grid positions direction (Ok tt) ≡ Ok tt
   unfolding direction_of
-  direction_passed h v r = stored_through grid positions (direction_row direction (Ok tt)) h ∙ tells (admissible direction) r
+  query_direction_passed h v r = stored_through grid positions (direction_row direction (Ok tt)) h ∙ tells (admissible direction) r
     where
       tells : (b : Bool) → ◌≡◌ {A = Result Vector3 Refusal} (answer (row b Direction (Ok tt)) Err (Ok direction)) (Ok v) → row b Direction (Ok tt) ≡ Ok tt
       tells true e = refl

@@ -13,7 +13,7 @@ use Rattle.vector.specs.declared.Vector3.{Vector3}
 use Rattle.vector.specs.Vector.{normalized}
 use Rattle.grid.specs.Grid.{Grid}
 use Rattle.grid_query.specs.Cell.{cell_of_query, candidates, cell_rows}
-use Rattle.grid_query.specs.Nearest.{squared_distance, nearest_of, found, nearest_in, grid_nearest}
+use Rattle.grid_query.specs.Nearest.{squared_distance, nearest_of, nearest_found, nearest_in, grid_nearest}
 use Rattle.grid_query.proofs.Distance.{squared_distance_fits}
 
 -- ranks of squared distances tell the distances
@@ -37,7 +37,7 @@ module _ (positions : List Float) (direction : Vector3) where
 
   -- "the answer has id, distance and the count of candidates compared"
   pub nearest_answer_lem : (ids : List ℕ)
-      → nearest_in positions direction ids ≡ found (nearest_of positions direction ids) (squared_distance positions direction (nearest_of positions direction ids)) (length ids)
+      → nearest_in positions direction ids ≡ nearest_found (nearest_of positions direction ids) (squared_distance positions direction (nearest_of positions direction ids)) (length ids)
   unfolding nearest_in
   nearest_answer_lem ids = refl
 

@@ -14,7 +14,7 @@ use Rattle.vector.specs.declared.Vector3.{Vector3}
 use Rattle.mesh.specs.Mesh.{vertex_count}
 use Rattle.mesh.specs.Rows.{ids_below}
 use Rattle.grid_query.specs.declared.Nearest.{Nearest}
-use Rattle.grid_query.specs.Nearest.{squared_distance, nearest_of, found, nearest_in}
+use Rattle.grid_query.specs.Nearest.{squared_distance, nearest_of, nearest_found, nearest_in}
 use Rattle.grid_query.proofs.Distance.{squared_distance_fits, squared_distance_ranks}
 
 -- what a scan answers, behind row 11
@@ -75,7 +75,7 @@ module _ (positions : List Float) (direction : Vector3) (ids : List ℕ) where
   scan_foreign foreign = rw foreign refl
 
   pub scan_end : (i id : ℕ) (distance : Float) (rank : ℕ) → Scanned positions direction ids i id distance rank → length ids ≤ i → ids_below (vertex_count positions) ids ≡ true
-      → Ok (found id distance (length ids)) ≡ scan_answer positions direction ids
+      → Ok (nearest_found id distance (length ids)) ≡ scan_answer positions direction ids
   unfolding nearest_in least
   scan_end i id distance rank s all below =
       let nearest : id ≡ nearest_of positions direction ids = rw (drop_of_length-le ids {i = i} all) at s.rest in
@@ -145,7 +145,7 @@ module _ (positions : List Float) (direction : Vector3) (ids : List ℕ) where
     pub read_number : nan_bits binary64 bits ≡ false
     read_number = nan_bits_is binary64 bits ∙ ap is_nan distance_again ∙ so_far.number
 
-    pub read_end : length ids ≤ i → Ok (found id (of_bits binary64 bits) (length ids)) ≡ scan_answer positions direction ids
+    pub read_end : length ids ≤ i → Ok (nearest_found id (of_bits binary64 bits) (length ids)) ≡ scan_answer positions direction ids
     unfolding ids_below
     read_end all =
         rw distance_again

@@ -21,14 +21,14 @@ nearest_of positions direction [] = 0
 nearest_of positions direction (i ∷ is) = least (λ v. rank_of (squared_distance positions direction v)) i is
 
 -- A vertex as an answer.
-abbrev pub found : ℕ → Float → ℕ → Nearest
-found id distance candidates = record { id = id; distance = distance; candidates = candidates }
+abbrev pub nearest_found : ℕ → Float → ℕ → Nearest
+nearest_found id distance candidates = record { id = id; distance = distance; candidates = candidates }
 
 -- "the answer has id, distance and the count of candidates compared", "the first included".
 unfoldable pub nearest_in : List Float → Vector3 → List ℕ → Nearest
 nearest_in positions direction ids =
     let id = nearest_of positions direction ids in
-    found id (squared_distance positions direction id) (length ids)
+    nearest_found id (squared_distance positions direction id) (length ids)
 
 -- The same behind the rows that speak of the cell.
 unfoldable pub nearest_of_cell : Grid → List Float → Vector3 → ℕ → Result Nearest Refusal

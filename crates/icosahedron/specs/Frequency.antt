@@ -6,9 +6,9 @@ use Rattle.icosahedron.specs.declared.frequency.Frequency.{Frequency}
 use Rattle.icosahedron.specs.Slots.{frequency_fits}
 
 -- The number of a frequency that passed, or the refusal.
-abbrev pub number_of : Result Frequency Refusal → Result ℕ Refusal
-number_of (Ok frequency) = Ok frequency.n
-number_of (Err reason) = Err reason
+abbrev pub frequency_number : Result Frequency Refusal → Result ℕ Refusal
+frequency_number (Ok frequency) = Ok frequency.n
+frequency_number (Err reason) = Err reason
 
 -- Row 1 lets a number from 1 to 80 pass.
 abbrev pub frequency_of : ℕ → Result ℕ Refusal

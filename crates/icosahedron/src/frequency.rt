@@ -13,12 +13,12 @@ pub struct Frequency {
 }
 
 impl Frequency {
-    ghost use Rattle.icosahedron.specs.Frequency.{frequency_of, number_of};
+    ghost use Rattle.icosahedron.specs.Frequency.{frequency_of, frequency_number};
 
     // Row 1.
     #[tactic(auto, unfolding(crate::specs::Slots::frequency_fits))]
     pub fn new(n: usize) -> Result<Frequency, Refusal>
-        ensures { number_of result ≡ frequency_of n }
+        ensures { frequency_number result ≡ frequency_of n }
     {
         if (1..=80).contains(&n) {
             Ok(Frequency { n })

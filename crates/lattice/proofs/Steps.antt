@@ -5,7 +5,7 @@ use Rattle.lattice.specs.Lattice.{LatticePoint, point_at}
 use Rattle.lattice.specs.Appearances.{OnLattice}
 use Rattle.lattice.specs.declared.face_points.Step as Program
 use Rattle.lattice.specs.declared.face_points.Step.TheVariants.{FirstToThird, FirstToSecond, SecondToThird, SecondToFirst, ThirdToSecond, ThirdToFirst}
-use Rattle.lattice.specs.Naming.{place_of, step_from, step_number as number_of_step}
+use Rattle.lattice.specs.Naming.{place_of, step_from, number_of_step}
 use Rattle.lattice.proofs.Neighbours.{Step, b_to_a, c_to_a, c_to_b, a_to_b, a_to_c, b_to_c}
 use Rattle.lattice.proofs.Order.{point_number}
 use Rattle.lattice.proofs.Naming.{point_at_place}

@@ -49,10 +49,10 @@ step_from n p (suc (suc (suc (suc zero)))) = cond (p.a + p.b == n) p (point_at p
 step_from n p (suc (suc (suc (suc (suc step))))) = cond (p.a + p.b == n) p (point_at p.face (p.a + 1) p.b)
 
 -- The number of the program's step.
-abbrev pub step_number : Step → ℕ
-step_number FirstToThird = 0
-step_number FirstToSecond = 1
-step_number SecondToThird = 2
-step_number SecondToFirst = 3
-step_number ThirdToSecond = 4
-step_number ThirdToFirst = 5
+abbrev pub number_of_step : Step → ℕ
+number_of_step FirstToThird = 0
+number_of_step FirstToSecond = 1
+number_of_step SecondToThird = 2
+number_of_step SecondToFirst = 3
+number_of_step ThirdToSecond = 4
+number_of_step ThirdToFirst = 5

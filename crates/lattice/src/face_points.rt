@@ -41,7 +41,7 @@ impl FacePoint {
     ghost use Rattle.icosahedron.specs.Corners.{corner_number};
     ghost use Rattle.lattice.specs.Appearances.{is_corner};
     ghost use Rattle.lattice.specs.Shared.{corner_at, edge_at};
-    ghost use Rattle.lattice.specs.Naming.{IsPoint, point_of, place_of, step_from, step_number};
+    ghost use Rattle.lattice.specs.Naming.{IsPoint, point_of, place_of, step_from, number_of_step};
     ghost use Rattle.lattice.specs.Inside.{is_inside};
 
     // The frequency and the face stand apart: of a struct of both, each place that reads one of them at a point would name one field more.
@@ -97,7 +97,7 @@ impl FacePoint {
 
     // The point that a step leads to; the point itself where the weight that falls is zero.
     pub fn step(self, step: Step) -> FacePoint
-        ensures { IsPoint result self.frequency (step_from self.frequency.n (point_of self) (step_number step)) }
+        ensures { IsPoint result self.frequency (step_from self.frequency.n (point_of self) (number_of_step step)) }
     {
         let n = self.frequency.n;
         match step {

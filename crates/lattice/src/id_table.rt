@@ -25,7 +25,7 @@ pub struct TablePoint<'a> {
 }
 
 impl<'a> TablePoint<'a> {
-    ghost use Rattle.lattice.specs.Naming.{IsPoint, point_of, step_from, step_number};
+    ghost use Rattle.lattice.specs.Naming.{IsPoint, point_of, step_from, number_of_step};
     ghost use Rattle.lattice.specs.Inside.{step_ids};
 
     // The id of the vertex at the point.
@@ -37,7 +37,7 @@ impl<'a> TablePoint<'a> {
 
     // The point that a step leads to.
     pub fn step(self, step: Step) -> TablePoint<'a>
-        ensures { IsPoint result.point self.entry.point.frequency (step_from self.entry.point.frequency.n (point_of self.entry.point) (step_number step)) }
+        ensures { IsPoint result.point self.entry.point.frequency (step_from self.entry.point.frequency.n (point_of self.entry.point) (number_of_step step)) }
     {
         TablePoint {
             table: self.table,

@@ -1,4 +1,4 @@
--- The outcome of a call by its two cases: `accepted`, `refused`, `one_of_two`. Assumes nothing.
+-- The outcome of a call by its two cases: `packing_accepted`, `refused`, `one_of_two`. Assumes nothing.
 use Rattle.std.proofs.Common.{◌≡◌, ℕ, List, length, ◌⊎◌, inl, inr, refl, ap, ◌∙◌}
 use Rattle.std.specs.Float.{Float}
 use Rattle.std.specs.Prelude.{Ok, Err}
@@ -20,9 +20,9 @@ module _ (grid : Grid) (positions : List Float) (taken : Taken) (words : List �
   abbrev by_rows : Verdict → PackOutcome
   by_rows v = answer v (λ reason. pack_outcome (Err reason) words floats) packed
 
-  pub accepted : (level : LevelRecord) → (pack grid positions taken words floats).answered ≡ Ok level → (rows ≡ Ok tt) × (pack grid positions taken words floats ≡ packed) × (level_record grid positions taken ≡ level)
+  pub packing_accepted : (level : LevelRecord) → (pack grid positions taken words floats).answered ≡ Ok level → (rows ≡ Ok tt) × (pack grid positions taken words floats ≡ packed) × (level_record grid positions taken ≡ level)
   unfolding pack
-  accepted level h = go rows refl h
+  packing_accepted level h = go rows refl h
     where
       go : (v : Verdict) → rows ≡ v → (by_rows v).answered ≡ Ok level → (rows ≡ Ok tt) × (by_rows rows ≡ packed) × (level_record grid positions taken ≡ level)
       go (Ok tt) e h = (e, ap by_rows e, cc)

@@ -10,7 +10,7 @@ use Rattle.packing.specs.Packing.{PackOutcome, level_record, pack}
 use Rattle.packing.specs.Laws.{PartsStand, PackedPartsStand, RecordFacts, RecordIsTold}
 use Rattle.packing.proofs.Behind.{length_packed}
 use Rattle.packing.proofs.Passed.{rows_passed, packable}
-use Rattle.packing.proofs.Outcome.{rows, packed, accepted}
+use Rattle.packing.proofs.Outcome.{rows, packed, packing_accepted}
 use Rattle.packing.proofs.Parts.{packed_parts}
 
 module _ (grid : Grid) (positions : List Float) (taken : Taken) (words : List ℕ) (floats : List Float) (passed : rows grid positions taken words floats ≡ Ok tt) where
@@ -49,7 +49,7 @@ pub of_accepted : (P : Grid → List Float → Taken → List ℕ → List Float
     → ((grid : Grid) (positions : List Float) (taken : Taken) (words : List ℕ) (floats : List Float) → rows grid positions taken words floats ≡ Ok tt → P grid positions taken words floats (level_record grid positions taken) (packed grid positions taken words floats))
     → (grid : Grid) (positions : List Float) (taken : Taken) (words : List ℕ) (floats : List Float) (level : LevelRecord) → (pack grid positions taken words floats).answered ≡ Ok level → P grid positions taken words floats level (pack grid positions taken words floats)
 of_accepted P holds grid positions taken words floats level h =
-    let a = accepted grid positions taken words floats level h in
+    let a = packing_accepted grid positions taken words floats level h in
     subst (λ (l : LevelRecord). P grid positions taken words floats l (pack grid positions taken words floats)) a.2
     (subst (λ (outcome : PackOutcome). P grid positions taken words floats (level_record grid positions taken) outcome) (sym a.1) (holds grid positions taken words floats a.0))
 

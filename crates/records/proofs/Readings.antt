@@ -9,7 +9,7 @@ use Rattle.std.proofs.lemmas.List.{length-map, get_or-map, drop_more}
 use Rattle.sequences.proofs.Tabulate.{tabulate_unique}
 use Rattle.records.specs.declared.reader.Fault.{Fault}
 use Rattle.records.specs.At.{At}
-use Rattle.records.specs.Words.{Reading, reading, found, failed, go_on, and_then, word_at_most, element_read, expected}
+use Rattle.records.specs.Words.{Reading, reading, succeeded, failed, go_on, and_then, word_at_most, element_read, expected}
 use Rattle.records.specs.Lists.{expected_each, behind_words, number_or_0, number_behind, ListRead}
 
 -- ---- written
@@ -24,7 +24,7 @@ module _ {F A : Type 0} {steps : F → A → F → Type 0} {value : A} (same : (
 module _ {A : Type 0} (most : ℕ) (of_word : ℕ → A) (from : At) where
   -- The first k places of a list are read, and the others hold the value of the word 0.
   pub record ReadSoFar (list : List A) (k : ℕ) (behind : At) : Type 0 where
-    pub words : behind_words most from k ≡ found tt behind
+    pub words : behind_words most from k ≡ succeeded tt behind
     pub elements : (j : ℕ) (d : A) → j < k → get_or list j d ≡ of_word (number_behind most from j)
     pub cleared : (j : ℕ) (d : A) → k ≤ j → j < length list → get_or list j d ≡ of_word 0
 
@@ -36,25 +36,25 @@ module _ {A : Type 0} (most : ℕ) (of_word : ℕ → A) (from : At) where
     number_here : number_behind most from k ≡ number_or_0 (word_at_most most behind).outcome
     number_here = ap (λ (first : Reading (Unit {0})). number_or_0 (and_then first (λ _ at. word_at_most most at)).outcome) r.words
 
-    words_next : behind_words most from (suc k) ≡ and_then (word_at_most most behind) (λ _ next. found tt next)
+    words_next : behind_words most from (suc k) ≡ and_then (word_at_most most behind) (λ _ next. succeeded tt next)
     unfolding behind_words
-    words_next = ap (λ (first : Reading (Unit {0})). and_then first (λ _ at. and_then (word_at_most most at) (λ _ next. found tt next))) r.words
+    words_next = ap (λ (first : Reading (Unit {0})). and_then first (λ _ at. and_then (word_at_most most at) (λ _ next. succeeded tt next))) r.words
 
     -- a word more
-    module _ {x : A} {next : At} (e : found x next ≡ element_read most of_word behind) (lt : k < length list) where
+    module _ {x : A} {next : At} (e : succeeded x next ≡ element_read most of_word behind) (lt : k < length list) where
       value_here : x ≡ of_word (number_behind most from k)
       value_here = go (word_at_most most behind).outcome e ∙ ap of_word (sym number_here)
         where
-          go : (outcome : Result ℕ Fault) → found x next ≡ go_on outcome (word_at_most most behind).behind (λ number at. found (of_word number) at) → x ≡ of_word (number_or_0 outcome)
+          go : (outcome : Result ℕ Fault) → succeeded x next ≡ go_on outcome (word_at_most most behind).behind (λ number at. succeeded (of_word number) at) → x ≡ of_word (number_or_0 outcome)
           go (Ok number) q = let same = ap (λ (read : Reading A). read.outcome) q in cc
           go (Err fault) q = let same = ap (λ (read : Reading A). read.outcome) q in cc
 
-      words_found : behind_words most from (suc k) ≡ found tt next
+      words_found : behind_words most from (suc k) ≡ succeeded tt next
       words_found = words_next ∙ go (word_at_most most behind).outcome e
         where
-          go : (outcome : Result ℕ Fault) → found x next ≡ go_on outcome (word_at_most most behind).behind (λ number at. found (of_word number) at)
-              → ◌≡◌ {A = Reading (Unit {0})} (go_on outcome (word_at_most most behind).behind (λ _ at. found tt at)) (found tt next)
-          go (Ok number) q = let r = ap (λ (read : Reading A). found (tt {0}) read.behind) q in sym r
+          go : (outcome : Result ℕ Fault) → succeeded x next ≡ go_on outcome (word_at_most most behind).behind (λ number at. succeeded (of_word number) at)
+              → ◌≡◌ {A = Reading (Unit {0})} (go_on outcome (word_at_most most behind).behind (λ _ at. succeeded tt at)) (succeeded tt next)
+          go (Ok number) q = let r = ap (λ (read : Reading A). succeeded (tt {0}) read.behind) q in sym r
           go (Err fault) q = let same = ap (λ (read : Reading A). read.outcome) q in cc
 
       pub read_next : ReadSoFar (set list k x) (k + 1) next
@@ -73,7 +73,7 @@ module _ {A : Type 0} (most : ℕ) (of_word : ℕ → A) (from : At) where
       word_failed : word_at_most most behind ≡ failed fault next
       word_failed = go (word_at_most most behind).outcome e
         where
-          go : (outcome : Result ℕ Fault) → failed {A = A} fault next ≡ go_on outcome (word_at_most most behind).behind (λ number at. found (of_word number) at)
+          go : (outcome : Result ℕ Fault) → failed {A = A} fault next ≡ go_on outcome (word_at_most most behind).behind (λ number at. succeeded (of_word number) at)
               → reading outcome (word_at_most most behind).behind ≡ failed fault next
           go (Ok number) q = let same = ap (λ (read : Reading A). read.outcome) q in cc
           go (Err other) q =
@@ -87,10 +87,10 @@ module _ {A : Type 0} (most : ℕ) (of_word : ℕ → A) (from : At) where
       words_failed (suc j) h = go (words_failed j) (dec_lt k j)
         where
           go : (k < j → behind_words most from j ≡ failed fault next) → Dec (k < j) → behind_words most from (suc j) ≡ failed fault next
-          go before (yes below) = ap (λ (first : Reading (Unit {0})). and_then first (λ _ at. and_then (word_at_most most at) (λ _ then. found (tt {0}) then))) (before below)
+          go before (yes below) = ap (λ (first : Reading (Unit {0})). and_then first (λ _ at. and_then (word_at_most most at) (λ _ then. succeeded (tt {0}) then))) (before below)
           go before (no least) =
               let same : j ≡ k = omega arith in
-              rw same (words_next ∙ ap (λ (word : Reading ℕ). and_then word (λ _ at. found (tt {0}) at)) word_failed)
+              rw same (words_next ∙ ap (λ (word : Reading ℕ). and_then word (λ _ at. succeeded (tt {0}) at)) word_failed)
 
       number_failed : (j : ℕ) → k ≤ j → number_behind most from j ≡ 0
       number_failed j h = go (dec_lt k j)
@@ -111,7 +111,7 @@ module _ {A : Type 0} (most : ℕ) (of_word : ℕ → A) (from : At) where
           each j h (yes below) = r.elements j (of_word 0) below
           each j h (no least) = r.cleared j (of_word 0) (omega arith) h ∙ ap of_word (sym (number_failed j (omega arith)))
 
-    pub read_all : length list ≤ k → k ≤ length list → ListRead most of_word from (length list) (found tt behind) list
+    pub read_all : length list ≤ k → k ≤ length list → ListRead most of_word from (length list) (succeeded tt behind) list
     read_all le ge =
         let e : k ≡ length list = omega arith in
         record {
@@ -134,12 +134,12 @@ module _ {A : Type 0} (word_of : A → ℕ) (list : List A) where
           let below : i < length (map word_of list) = simp length-map lt in
           rw (drop_more (map word_of list) i 0 below, word) refl
 
-      pub each_next : {behind : At} → found tt behind ≡ expected (word_of x) from → rest_expected (i + 1) behind ≡ rest_expected i from
+      pub each_next : {behind : At} → succeeded tt behind ≡ expected (word_of x) from → rest_expected (i + 1) behind ≡ rest_expected i from
       each_next e = ap (λ (first : Reading (Unit {0})). and_then first (λ _ at. rest_expected (i + 1) at)) e ∙ sym rest_first
 
       pub each_fault : {fault : Fault} {behind : At} → failed fault behind ≡ expected (word_of x) from → failed fault behind ≡ rest_expected i from
       each_fault e = ap (λ (first : Reading (Unit {0})). and_then first (λ _ at. rest_expected (i + 1) at)) e ∙ sym rest_first
 
-    pub each_all : length list ≤ i → rest_expected i from ≡ found tt from
+    pub each_all : length list ≤ i → rest_expected i from ≡ succeeded tt from
     unfolding expected_each
     each_all h = let all : length (map word_of list) ≤ i = simp length-map h in rw (drop_of_length-le (map word_of list) all) refl

@@ -18,8 +18,8 @@ module _ (text rest : List ℕ) (is : IsRest text rest) where
     rest_behind = ap (drop i) is ∙ drop-drop i (place_before text rest) text ∙ ap (λ (n : ℕ). drop n text) (sym place_behind)
 
 module _ (text : List ℕ) (place : ℕ) (lt : place < length text) where
-  pub place_from : place_before text (drop place text) ≡ place
-  place_from = omega (arith, length-drop place text)
+  pub rest_place : place_before text (drop place text) ≡ place
+  rest_place = omega (arith, length-drop place text)
 
   pub rest_from : IsRest text (drop place text)
-  rest_from = ap (λ (n : ℕ). drop n text) (sym place_from)
+  rest_from = ap (λ (n : ℕ). drop n text) (sym rest_place)

@@ -10,9 +10,9 @@ use Rattle.std.proofs.Math.Nat.{add-zero}
 use native.Mathlib.Decide.{dec_lt}
 use lib.ListN.{get_or-eq_default}
 use Rattle.records.specs.declared.reader.Fault.TheVariants.{Malformed}
-use Rattle.records.specs.At.{At, at, place_before, IsRest}
-use Rattle.records.specs.Words.{Word, Reading, byte_at, line_feed, space, word_to, digits_word, digits_at, leading_digits, with_digits, spells_nan, nan_pattern, token_at, split_behind, line_goes_on, delimited, next_text, next_word, found, failed}
-use Rattle.records.proofs.Rests.{rest_from, place_from}
+use Rattle.records.specs.At.{At, reader_at, place_before, IsRest}
+use Rattle.records.specs.Words.{Word, Reading, byte_at, line_feed, space, word_to, digits_word, digits_at, leading_digits, with_digits, spells_nan, nan_pattern, token_at, split_behind, line_goes_on, delimited, next_text, next_word, succeeded, failed}
+use Rattle.records.proofs.Rests.{rest_from, rest_place}
 
 abbrev has_feed : List ℕ → ℕ → Bool
 has_feed text end = eqb (byte_at text end) line_feed
@@ -78,14 +78,14 @@ next_from text end = rw (byte_behind text end, drop-drop 1 end text, line_behind
 
 module _ (text : List ℕ) (start number end : ℕ) where
   abbrev word_delimited : Reading ℕ
-  word_delimited = delimited (at text start) (word_to number end)
+  word_delimited = delimited (reader_at text start) (word_to number end)
 
-  not_delimited : next_text (drop end text) ≡ None → word_delimited ≡ failed Malformed (at text start)
+  not_delimited : next_text (drop end text) ≡ None → word_delimited ≡ failed Malformed (reader_at text start)
   unfolding delimited
   not_delimited e = go (has_feed text end) (goes_on text end) (sym (next_from text end) ∙ e)
     where
       go : (feed more : Bool) → cond feed (Some (drop end text)) (cond more (Some (drop (end + 1) text)) None) ≡ None
-          → cond feed (found number (at text end)) (cond more (found number (at text (end + 1))) (failed Malformed (at text start))) ≡ failed Malformed (at text start)
+          → cond feed (succeeded number (reader_at text end)) (cond more (succeeded number (reader_at text (end + 1))) (failed Malformed (reader_at text start))) ≡ failed Malformed (reader_at text start)
       go true more q = absurd (none-some _ (sym q))
       go false true q = absurd (none-some _ (sym q))
       go false false q = refl
@@ -93,12 +93,12 @@ module _ (text : List ℕ) (start number end : ℕ) where
   -- a reader may go on with what follows the word
   record GoesOn (next : List ℕ) : Type 0 where
     left : IsRest text next
-    word : word_delimited ≡ found number (at text (place_before text next))
+    word : word_delimited ≡ succeeded number (reader_at text (place_before text next))
 
-  goes_from : (place : ℕ) → place < length text → word_delimited ≡ found number (at text place) → GoesOn (drop place text)
+  goes_from : (place : ℕ) → place < length text → word_delimited ≡ succeeded number (reader_at text place) → GoesOn (drop place text)
   goes_from place h e = record {
     left = rest_from text place h;
-    word = rw (place_from text place h) e;
+    word = rw (rest_place text place h) e;
   }
 
   goes_on_with : {next : List ℕ} → next_text (drop end text) ≡ Some next → GoesOn next
@@ -114,7 +114,7 @@ module _ (text : List ℕ) (start number end : ℕ) where
 -- ---- the next word
 module _ (text rest : List ℕ) (is : IsRest text rest) where
   abbrev from : At
-  from = at text (place_before text rest)
+  from = reader_at text (place_before text rest)
 
   token_here : token_at text from.place ≡ option_map (moved from.place) (token_at rest 0)
   token_here = token_moved text from.place ∙ ap (λ (left : List ℕ). option_map (moved from.place) (token_at left 0)) (sym is)
@@ -155,7 +155,7 @@ module _ (text rest : List ℕ) (is : IsRest text rest) where
         let t = token_behind in
         sym (t.here ∙ not_delimited text from.place number t.end (ap next_text t.left ∙ q))
 
-    pub word_read : {next : List ℕ} → next_text behind ≡ Some next → IsRest text next × (found number (at text (place_before text next)) ≡ next_word from)
+    pub word_read : {next : List ℕ} → next_text behind ≡ Some next → IsRest text next × (succeeded number (reader_at text (place_before text next)) ≡ next_word from)
     word_read q =
         let t = token_behind in
         let next = goes_on_with text from.place number t.end (ap next_text t.left ∙ q) in

@@ -6,8 +6,8 @@ pub record At : Type 0 where
   pub text : List ℕ
   pub place : ℕ
 
-abbrev pub at : List ℕ → ℕ → At
-at text place = record { text = text; place = place }
+abbrev pub reader_at : List ℕ → ℕ → At
+reader_at text place = record { text = text; place = place }
 
 -- The place in a text behind which so much of it is left.
 abbrev pub place_before : List ℕ → List ℕ → ℕ

@@ -6,7 +6,7 @@ use Rattle.std.specs.Float.Ieee.{to_bits}
 use Rattle.sequences.specs.Tabulate.{tabulate}
 use Rattle.records.specs.At.{At}
 use Rattle.records.specs.declared.reader.Fault.{Fault}
-use Rattle.records.specs.Words.{Reading, found, and_then, word_at_most, expected}
+use Rattle.records.specs.Words.{Reading, succeeded, and_then, word_at_most, expected}
 use Rattle.records.specs.Hash.{hash_of}
 
 -- "A double is its bit pattern; every NaN is `nan`": there is one NaN here, and its pattern is `nan_pattern`.
@@ -15,7 +15,7 @@ pattern x = to_bits binary64 x
 
 -- "A list is one word an element": each is expected in its turn.
 unfoldable pub expected_each : List ℕ → At → Reading (Unit {0})
-expected_each [] from = found tt from
+expected_each [] from = succeeded tt from
 expected_each (number ∷ rest) from = and_then (expected number from) (λ _ behind. expected_each rest behind)
 
 -- "a hash in place of each list", where numbers have `size` bytes.
@@ -24,8 +24,8 @@ expected_list hashed size numbers from = cond hashed (expected (hash_of size num
 
 -- n words, each at most `most`.
 unfoldable pub behind_words : ℕ → At → ℕ → Reading (Unit {0})
-behind_words most from zero = found tt from
-behind_words most from (suc n) = and_then (behind_words most from n) (λ _ behind. and_then (word_at_most most behind) (λ _ next. found tt next))
+behind_words most from zero = succeeded tt from
+behind_words most from (suc n) = and_then (behind_words most from n) (λ _ behind. and_then (word_at_most most behind) (λ _ next. succeeded tt next))
 
 -- The number of a word, and 0 where none was read.
 abbrev pub number_or_0 : Result ℕ Fault → ℕ

@@ -4,7 +4,7 @@ use Rattle.std.specs.List.{position}
 use Rattle.std.specs.Option.{unwrap_or}
 use Rattle.records.specs.declared.reader.Fault.{Fault}
 use Rattle.records.specs.declared.reader.Fault.TheVariants.{Malformed, TooGreat, Different, TooMany}
-use Rattle.records.specs.At.{At, at}
+use Rattle.records.specs.At.{At, reader_at}
 
 abbrev pub space : ℕ
 space = 32
@@ -75,8 +75,8 @@ module _ {A : Type 0} where
   abbrev pub reading : Result A Fault → At → Reading A
   reading outcome behind = record { outcome = outcome; behind = behind }
 
-  abbrev pub found : A → At → Reading A
-  found a behind = reading (Ok a) behind
+  abbrev pub succeeded : A → At → Reading A
+  succeeded a behind = reading (Ok a) behind
 
   abbrev pub failed : Fault → At → Reading A
   failed fault behind = reading (Err fault) behind
@@ -99,8 +99,8 @@ line_goes_on text place = ltb place (length text) && not (eqb (byte_at text plac
 -- "A record is a line: words with one space between them": behind a token stands the line feed, and the reader stays at it; or a space with more of the line behind it, and the reader passes the space.
 unfoldable pub delimited : At → Word → Reading ℕ
 delimited from word =
-    cond (eqb (byte_at from.text word.end) line_feed) (found word.value (at from.text word.end))
-    (cond (eqb (byte_at from.text word.end) space && line_goes_on from.text (word.end + 1)) (found word.value (at from.text (word.end + 1))) (failed Malformed from))
+    cond (eqb (byte_at from.text word.end) line_feed) (succeeded word.value (reader_at from.text word.end))
+    (cond (eqb (byte_at from.text word.end) space && line_goes_on from.text (word.end + 1)) (succeeded word.value (reader_at from.text (word.end + 1))) (failed Malformed from))
 
 -- The same by the text behind a token: what the reader goes on with.
 unfoldable pub next_text : List ℕ → Option (List ℕ)
@@ -114,7 +114,7 @@ next_word from = elim (token_at from.text from.place) [ None ↦ failed Malforme
 
 -- A number, where it is at most `most`.
 abbrev pub limited : ℕ → ℕ → At → Reading ℕ
-limited most number behind = cond (leb number most) (found number behind) (failed TooGreat behind)
+limited most number behind = cond (leb number most) (succeeded number behind) (failed TooGreat behind)
 
 -- The next word, its number at most `most`.
 unfoldable pub word_at_most : ℕ → At → Reading ℕ
@@ -122,13 +122,13 @@ word_at_most most from = and_then (next_word from) (limited most)
 
 -- The next word as a value of a type, of which `most` is the greatest word.
 abbrev pub element_read : {A : Type 0} → ℕ → (ℕ → A) → At → Reading A
-element_read most of_word from = and_then (word_at_most most from) (λ number behind. found (of_word number) behind)
+element_read most of_word from = and_then (word_at_most most from) (λ number behind. succeeded (of_word number) behind)
 
 -- ---- comparisons
 
 -- A number, where it is the expected one.
 abbrev pub compared : ℕ → ℕ → At → Reading (Unit {0})
-compared number other behind = cond (eqb other number) (found tt behind) (failed Different behind)
+compared number other behind = cond (eqb other number) (succeeded tt behind) (failed Different behind)
 
 -- The next word, compared with a number.
 unfoldable pub expected : ℕ → At → Reading (Unit {0})

@@ -4,14 +4,14 @@ use Rattle.std.specs.Result.{is_ok}
 use Rattle.std.specs.Float.{nan}
 use Rattle.records.specs.declared.reader.Fault.{Fault}
 use Rattle.records.specs.declared.reader.Fault.TheVariants.{Malformed}
-use Rattle.records.specs.At.{at}
+use Rattle.records.specs.At.{reader_at}
 use Rattle.records.specs.Words.{nan_pattern, next_word}
 use Rattle.records.specs.Lists.{pattern, expected_each}
 use Rattle.records.specs.Hash.{offset_basis, hashed_bytes, bytes_of_each}
 
 -- the first word of a text, and the place behind it
 abbrev pub first_word : List ℕ → Result ℕ Fault × ℕ
-first_word text = let word = next_word (at text 0) in (word.outcome, word.behind.place)
+first_word text = let word = next_word (reader_at text 0) in (word.outcome, word.behind.place)
 
 -- a word that is malformed, with the reader before it
 abbrev pub malformed : Result ℕ Fault × ℕ
@@ -19,7 +19,7 @@ malformed = (Err Malformed, 0)
 
 -- whether a text holds the numbers 1 and 2
 abbrev pub holds_one_two : List ℕ → Bool
-holds_one_two text = is_ok (expected_each (1 ∷ 2 ∷ []) (at text 0)).outcome
+holds_one_two text = is_ok (expected_each (1 ∷ 2 ∷ []) (reader_at text 0)).outcome
 
 pub record WorkedRecords : Type 0 where
   -- `1f 0`, `1f`, `nan 0` and 16 digits, each with a line feed behind it

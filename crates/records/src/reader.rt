@@ -1,6 +1,6 @@
 // A line's words, taken from the left.
 ghost use Rattle.std.specs.Prelude.{◌≡◌, ◌≤◌, length, map, IfOk};
-ghost use Rattle.records.specs.At.{At, at};
+ghost use Rattle.records.specs.At.{At, reader_at};
 ghost use Rattle.records.specs.Words.{reading, next_word, word_at_most, element_read, expected, finished, line_end};
 ghost use Rattle.records.specs.Lists.{expected_each, ListRead};
 ghost use Rattle.records.specs.Hash.{hash_of};
@@ -30,18 +30,18 @@ pub struct Reader<'a> {
 }
 
 impl<'a> Model for Reader<'a> {
-    ghost use Rattle.records.specs.At.{At, at, place_before, IsRest};
+    ghost use Rattle.records.specs.At.{At, reader_at, place_before, IsRest};
 
     ghost Value = { At };
 
-    ghost view = { λ r. at r.text.now (place_before r.text.now r.rest.now) };
+    ghost view = { λ r. reader_at r.text.now (place_before r.text.now r.rest.now) };
 
     ghost invariant = { λ r. IsRest r.text.now r.rest.now };
 }
 
 impl<'a> Reader<'a> {
     pub fn new(text: &'a [u8]) -> Self
-        ensures { result ≡ at text.now 0 }
+        ensures { result ≡ reader_at text.now 0 }
     {
         Reader { text, rest: text }
     }
@@ -152,7 +152,7 @@ impl<'a> Reader<'a> {
 
     // Passes what is left of the line.
     pub fn skip_line(&mut self)
-        ensures { self.new ≡ at self.old.text (line_end self.old.text self.old.place) }
+        ensures { self.new ≡ reader_at self.old.text (line_end self.old.text self.old.place) }
     {
         self.rest = &self.rest[line_length(self.rest)..];
     }

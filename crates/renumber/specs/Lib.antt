@@ -1,2 +1,3 @@
+pub mod Lent
 pub mod Renumber
 pub mod Laws

@@ -1,13 +1,13 @@
 -- `grid::extent::Extent::cells_near`, by where the coordinate lies. Assumes nothing.
 use Rattle.std.proofs.Common.{◌≡◌, ℕ, ℤ, pos, nat_abs, false, sym, ap, ◌∙◌, subst, arith, to_z-of_z, w64, SFits, to_z, of_z}
 use lib.Signed.{lt_z}
-use Rattle.std.specs.declared.ops.Range.{Range}
+use Rattle.grid.specs.declared.placement.CellRange.{CellRange}
 use Rattle.grid.specs.Placing.{CellsBelow, Near}
 use Rattle.grid.proofs.Placing.{near_none_above, near_inside, near_none_below_tested, near_below_tested, not_negative, least_end}
 use Rattle.grid.proofs.extent.Extent.cells_near.Goals as goal
 
 -- a coordinate from 0 up is what it casts to
-moved : {margin g : ℕ} {z : ℤ} {range : Range ℕ} → SFits w64 z → lt_z (to_z w64 (of_z w64 z)) (pos 0) ≡ false
+moved : {margin g : ℕ} {z : ℤ} {range : CellRange} → SFits w64 z → lt_z (to_z w64 (of_z w64 z)) (pos 0) ≡ false
     → Near margin g (pos (nat_abs (to_z w64 (of_z w64 z)))) range → Near margin g z range
 moved {margin} {g} {z} {range} fits h near =
     let read = to_z-of_z fits in

@@ -5,9 +5,9 @@ use Rattle.grid.specs.Settings.{factor_fits, margin_fits}
 use Rattle.grid.specs.Cells.{side_of, cell_count}
 use Rattle.grid.specs.Stored.{side_fits, both_starts_counted}
 use Rattle.grid.proofs.SettingsRows.{usual_fits}
-use Rattle.grid.proofs.Stored.{positions_count, extent_buildable, starts_tested}
+use Rattle.grid.proofs.Stored.{positions_count, extent_buildable, starts_tested, stored_whatever_lists}
 use Rattle.grid.proofs.stored_grid.StoredGrid.usual_passes.Goals as goal
-use Rattle.grid.proofs.stored_grid.StoredGrid.usual_passes.Goals.{Else-not-usual_side_is}
+use Rattle.grid.proofs.stored_grid.StoredGrid.usual_passes.Goals.{Else-not-usual_side_is, After-lengths_fit}
 
 pub invariant_of-vertices : goal.invariant_of-vertices
 invariant_of-vertices c =
@@ -31,11 +31,22 @@ extent-requires c =
     let p = passed (goal.at.extent-requires c).Else-not-usual_side_is in
     extent_buildable _ _ (sym c.positions_fit.ensures ∙ c.if-not-positions_fit.false) p.0 p.1 p.2
 
-pub returns : goal.returns
-returns c = λ h.
+-- what the test of the lengths lets pass
+lengths : (c : After-lengths_fit) → c.lengths_fit.result ≡ true → both_starts_counted c.args.self.now c.args.positions.now ≡ true
+lengths c h =
     let grid = c.args.self.now in
     let P = c.args.positions.now in
-    let p = passed (goal.at.returns c).Else-not-usual_side_is in
-    let lengths : both_starts_counted grid P ≡ true
-    = sym (starts_tested grid P) ∙ sym (λ i. eqb (length grid.cell_starts) (cell_count (c.extent.ensures.side i) + 1) && eqb (length grid.triangle_starts) (c.vertex_count.ensures i + 1)) ∙ sym c.lengths_fit.ensures ∙ h in
-    rw (sym c.positions_fit.ensures ∙ c.if-not-positions_fit.false, p.0, p.1, p.2, lengths) refl
+    sym (starts_tested grid P) ∙ sym (λ i. eqb (length grid.cell_starts) (cell_count (c.extent.ensures.side i) + 1) && eqb (length grid.triangle_starts) (c.vertex_count.ensures i + 1)) ∙ sym c.lengths_fit.ensures ∙ h
+
+pub returns-clause-rows : goal.returns-clause-rows
+returns-clause-rows c = λ h.
+    let here = goal.at.returns-clause-rows c in
+    let p = passed here.Else-not-usual_side_is in
+    rw (sym c.positions_fit.ensures ∙ c.if-not-positions_fit.false, p.0, p.1, p.2, lengths here.After-lengths_fit h) refl
+
+pub returns-clause-whatever_lists : goal.returns-clause-whatever_lists
+returns-clause-whatever_lists c = λ h cell_ids triples.
+    let here = goal.at.returns-clause-whatever_lists c in
+    let p = passed here.Else-not-usual_side_is in
+    sym (stored_whatever_lists c.args.self.now c.args.positions.now cell_ids triples)
+    ∙ rw (sym c.positions_fit.ensures ∙ c.if-not-positions_fit.false, p.0, p.1, p.2, lengths here.After-lengths_fit h) refl
